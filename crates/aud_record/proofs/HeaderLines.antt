@@ -1,10 +1,10 @@
 -- The lines of a header: what is written is read again, and what is read is written so.
-use Rattle.std.specs.Prelude.{◌≡◌, ℕ, ◌+◌, ◌<◌, ◌≤◌, ◌==◌, not, nat_lt, Bool, true, false, cond, List, [], ◌∷◌, ◌++◌, length, Option, None, Some, Result, Ok, Err, codes, refl}
-use Rattle.std.proofs.Common.{ap, sym, subst, ◌∙◌, inl, arith, append_assoc, drop, drop-cons, add-one, get_or}
+use Rattle.std.specs.Prelude.{◌≡◌, ℕ, ◌+◌, ◌<◌, ◌≤◌, ◌==◌, not, nat_lt, Bool, true, false, cond, List, [], ◌∷◌, ◌++◌, length, Option, None, Some, Result, Ok, Err, ◌⊎◌, codes, refl}
+use Rattle.std.proofs.Common.{ap, sym, subst, ◌∙◌, inl, inr, arith, append_assoc, drop, drop-cons, add-one, get_or}
 use Rattle.std.specs.List.{join_with_byte, list_all}
 use Rattle.std.specs.Option.{ok_or}
 use Rattle.std.specs.Result.{IsErrAnd}
-use Rattle.std.proofs.lemmas.Bool.{and_parts, and_from, lt-ltb}
+use Rattle.std.proofs.lemmas.Bool.{and_parts, and_from, lt-ltb, both_ways}
 use Rattle.std.proofs.lemmas.List.{append-nil, drop_all}
 use Rattle.std.proofs.lemmas.List.Splits.{join_with_byte-slice_split}
 use Rattle.std.proofs.lemmas.Option.{cond_some}
@@ -19,12 +19,12 @@ use Rattle.fs_path.specs.Options.{keep_if}
 use Rattle.fs_path.specs.Split.{split_once, pieces}
 use Rattle.fs_path.specs.Words.{is_space, is_plain, is_bare, is_bare_text, after_spaces, line_text}
 use Rattle.lab_text.proofs.BareLemmas.{all_bare, label_name_bare}
-use Rattle.lab_text.proofs.PolicyFacts.{policy_facts, levels_alone}
+use Rattle.lab_text.proofs.PolicyFacts.{policy_facts, levels_alone, without_grades}
 use Rattle.lab_text.specs.Lists.{all_lists, keyword_of}
 use Rattle.lab_text.specs.Names.{Names, same_bytes, is_label_name}
 use Rattle.lab_text.specs.Policy.{PolicyNames, with_names, no_names, names_fault, MakePolicy}
 use Rattle.lab_text.specs.declared.lists.NameList.{NameList}
-use Rattle.lab_text.specs.declared.lists.NameList.TheVariants.{Levels, Categories}
+use Rattle.lab_text.specs.declared.lists.NameList.TheVariants.{Levels, Categories, Grades}
 use Rattle.lab_text.specs.declared.policy.PolicyError.{PolicyError}
 use Rattle.aud_record.proofs.FieldLaws.{prefix_is}
 use Rattle.aud_record.proofs.FormLaws.{bound_is}
@@ -32,7 +32,7 @@ use Rattle.aud_record.proofs.Numbers.{same_itself, same_is}
 use Rattle.aud_record.proofs.WordLaws.{lacks, lacks-append, split_round_trip, split_is, word_lacks}
 use Rattle.aud_record.specs.Canonical.{after_prefix}
 use Rattle.aud_record.specs.Results.{AnswersAs, FailsBy}
-use Rattle.aud_record.specs.Header.{is_no_memory, after_keyword, keyword_line, made, policy_of, names_line, names_lines, bound_number, canonical_set, bound_of, format_line}
+use Rattle.aud_record.specs.Header.{is_no_memory, after_keyword, keyword_line, made, policy_of, names_line, is_before, has_no_line, list_line, names_lines, canonical_set, bound_of, format_line}
 use Rattle.aud_record.specs.Words.{◌>>=◌}
 use Rattle.aud_record.specs.Written.{line_of}
 use Rattle.aud_record.specs.declared.header.HeaderError.{HeaderError}
@@ -139,6 +139,7 @@ line_for list names = line_of (keyword_of list ∷ names)
 keyword_bare : (list : NameList) → is_bare_text (keyword_of list) ≡ true
 keyword_bare Levels = refl
 keyword_bare Categories = refl
+keyword_bare Grades = refl
 
 abbrev with_words : ℕ → NameList → PolicyNames → Names × List ℕ → Result (PolicyNames × List ℕ) HeaderError
 with_words n list p x = policy_of n (with_names p list x.0) >>= λ policy. Ok (policy, x.1)
@@ -172,15 +173,41 @@ names_line_is n list p q text rest h =
     } in
     subst (λ (x : PolicyNames × List ℕ). HasNames n list p x.0 text x.1) same has
 
+-- ---- lines that may be left out
+
+line_there : (n : ℕ) (list : NameList) (p : PolicyNames) (text : List ℕ) → has_no_line list text ≡ false → list_line n list p text ≡ names_line n list p text
+unfolding list_line
+line_there n list p text there = ap (λ b. cond b (Ok (p, text)) (names_line n list p text)) there
+
+line_absent : (n : ℕ) (list : NameList) (p : PolicyNames) (text : List ℕ) → has_no_line list text ≡ true → list_line n list p text ≡ Ok (p, text)
+unfolding list_line
+line_absent n list p text absent = ap (λ b. cond b (Ok (p, text)) (names_line n list p text)) absent
+
+-- a line whose names make a policy with those before them is read
+list_line_round_trip : (n : ℕ) (list : NameList) (p : PolicyNames) (names : Names) (rest : List ℕ) → has_no_line list (line_for list names ++ rest) ≡ false → list_all is_label_name names ≡ true → MakePolicy (with_names p list names)
+    → list_line n list p (line_for list names ++ rest) ≡ Ok (with_names p list names, rest)
+list_line_round_trip n list p names rest there named fine = line_there n list p (line_for list names ++ rest) there ∙ names_line_round_trip n list p names rest named fine
+
+-- what a line says of the names: those that it has, or nothing where it is left out
+list_line_is : (n : ℕ) (list : NameList) (p q : PolicyNames) (text rest : List ℕ) → list_line n list p text ≡ Ok (q, rest)
+    → (◌≡◌ {A = Result (PolicyNames × List ℕ) HeaderError} (Ok (p, text)) (Ok (q, rest)) × (has_no_line list text ≡ true)) ⊎ (HasNames n list p q text rest × (has_no_line list text ≡ false))
+unfolding list_line
+list_line_is n list p q text rest h = by_test (has_no_line list text) refl h
+  where
+    by_test : (b : Bool) → has_no_line list text ≡ b → cond b (Ok (p, text)) (names_line n list p text) ≡ Ok (q, rest)
+        → (◌≡◌ {A = Result (PolicyNames × List ℕ) HeaderError} (Ok (p, text)) (Ok (q, rest)) × (has_no_line list text ≡ true)) ⊎ (HasNames n list p q text rest × (has_no_line list text ≡ false))
+    by_test true e h = inl (h, e)
+    by_test false e h = inr (names_line_is n list p q text rest h, e)
+
 -- ---- the lines of names, one after another
 
 -- a line that is read, before others
-pub first_line : (n : ℕ) (list : NameList) (lists : List NameList) (p q : PolicyNames) (text rest : List ℕ) → names_line n list p text ≡ Ok (q, rest) → names_lines n (list ∷ lists) p text ≡ names_lines (n + 1) lists q rest
+pub first_line : (n : ℕ) (list : NameList) (lists : List NameList) (p q : PolicyNames) (text rest : List ℕ) → list_line n list p text ≡ Ok (q, rest) → names_lines n (list ∷ lists) p text ≡ names_lines (n + 1) lists q rest
 unfolding names_lines
 first_line n list lists p q text rest h = ap (λ (r : Result (PolicyNames × List ℕ) HeaderError). r >>= λ first. names_lines (n + 1) lists first.0 first.1) h
 
 -- a line at fault, before others
-pub first_fails : (n : ℕ) (list : NameList) (lists : List NameList) (p : PolicyNames) (text : List ℕ) (e : HeaderError) → FailsBy is_no_memory e (names_line n list p text) → FailsBy is_no_memory e (names_lines n (list ∷ lists) p text)
+pub first_fails : (n : ℕ) (list : NameList) (lists : List NameList) (p : PolicyNames) (text : List ℕ) (e : HeaderError) → FailsBy is_no_memory e (list_line n list p text) → FailsBy is_no_memory e (names_lines n (list ∷ lists) p text)
 unfolding names_lines
 first_fails n list lists p text (error.Form k) h = ap (λ (r : Result (PolicyNames × List ℕ) HeaderError). r >>= λ first. names_lines (n + 1) lists first.0 first.1) h
 first_fails n list lists p text (error.Name k) h = ap (λ (r : Result (PolicyNames × List ℕ) HeaderError). r >>= λ first. names_lines (n + 1) lists first.0 first.1) h
@@ -190,16 +217,37 @@ no_lines : (n : ℕ) (p : PolicyNames) (text : List ℕ) → names_lines n [] p 
 unfolding names_lines
 no_lines n p text = refl
 
--- names that some lines give make a policy
-pub names_made : (n : ℕ) (list : NameList) (lists : List NameList) (p q : PolicyNames) (text rest : List ℕ) → names_lines n (list ∷ lists) p text ≡ Ok (q, rest) → MakePolicy q
+ok_first : {p q : PolicyNames} {text rest : List ℕ} → ◌≡◌ {A = Result (PolicyNames × List ℕ) HeaderError} (Ok (p, text)) (Ok (q, rest)) → p ≡ q
+ok_first {p} {q} {text} {rest} h = let same : ◌≡◌ {A = PolicyNames × List ℕ} (p, text) (q, rest) = cc in ap (λ (x : PolicyNames × List ℕ). x.0) same
+
+-- names that are a policy's, and those of a further line, make a policy
+list_made : (n : ℕ) (list : NameList) (p q : PolicyNames) (text rest : List ℕ) → MakePolicy p → list_line n list p text ≡ Ok (q, rest) → MakePolicy q
+list_made n list p q text rest fine h = elim (list_line_is n list p q text rest h) [
+  | inl absent ↦ let same : p ≡ q = ok_first absent.0 in subst (λ (x : PolicyNames). MakePolicy x) same fine
+  | inr there ↦ there.0.fine
+]
+
+lists_made : (n : ℕ) (lists : List NameList) (p q : PolicyNames) (text rest : List ℕ) → MakePolicy p → names_lines n lists p text ≡ Ok (q, rest) → MakePolicy q
 unfolding names_lines
-names_made n list [] p q text rest h =
-    let first = bound_is (names_line n list p text) (λ first. names_lines (n + 1) [] first.0 first.1) (q, rest) h in
-    let same : ◌≡◌ {A = PolicyNames × List ℕ} (first.0.0, first.0.1) (q, rest) = cc in
-    subst (λ (x : PolicyNames × List ℕ). MakePolicy x.0) same (names_line_is n list p first.0.0 text first.0.1 first.1).fine
-names_made n list (next ∷ lists) p q text rest h =
-    let first = bound_is (names_line n list p text) (λ first. names_lines (n + 1) (next ∷ lists) first.0 first.1) (q, rest) h in
-    names_made (n + 1) next lists first.0.0 q first.0.1 rest first.2
+lists_made n [] p q text rest fine h = let is : ◌≡◌ {A = Result (PolicyNames × List ℕ) HeaderError} (Ok (p, text)) (Ok (q, rest)) = h in let same : p ≡ q = ok_first is in subst (λ (x : PolicyNames). MakePolicy x) same fine
+lists_made n (list ∷ lists) p q text rest fine h =
+    let first = bound_is (list_line n list p text) (λ first. names_lines (n + 1) lists first.0 first.1) (q, rest) h in
+    lists_made (n + 1) lists first.0.0 q first.0.1 rest (list_made n list p first.0.0 text first.0.1 fine first.1) first.2
+
+-- the line of levels is always there
+levels_line : (n : ℕ) (p q : PolicyNames) (text rest : List ℕ) → list_line n Levels p text ≡ Ok (q, rest) → HasNames n Levels p q text rest
+levels_line n p q text rest h = names_line_is n Levels p q text rest (sym (line_there n Levels p text refl) ∙ h)
+
+-- so is that of categories
+cats_line : (n : ℕ) (p q : PolicyNames) (text rest : List ℕ) → list_line n Categories p text ≡ Ok (q, rest) → HasNames n Categories p q text rest
+cats_line n p q text rest h = names_line_is n Categories p q text rest (sym (line_there n Categories p text refl) ∙ h)
+
+-- the names of all lists make a policy
+pub names_made : (n : ℕ) (p q : PolicyNames) (text rest : List ℕ) → names_lines n all_lists p text ≡ Ok (q, rest) → MakePolicy q
+unfolding names_lines
+names_made n p q text rest h =
+    let first = bound_is (list_line n Levels p text) (λ first. names_lines (n + 1) (Categories ∷ Grades ∷ []) first.0 first.1) (q, rest) h in
+    lists_made (n + 1) (Categories ∷ Grades ∷ []) first.0.0 q first.0.1 rest (levels_line n p first.0.0 text first.0.1 first.1).fine first.2
 
 -- ---- line by line, of all lists
 
@@ -211,13 +259,13 @@ from_place place d p text within =
     ap (λ (lists : List NameList). names_lines (place + 2) lists p text) (drop-cons all_lists place d within ∙ ap (λ k. get_or all_lists place d ∷ drop k all_lists) (sym (add-one place)))
 
 pub line_read : (place : ℕ) (d : NameList) (p q : PolicyNames) (text rest : List ℕ) (whole : Read) → place < length all_lists → whole ≡ names_lines (place + 2) (drop place all_lists) p text
-    → names_line (place + 2) (get_or all_lists place d) p text ≡ Ok (q, rest) → whole ≡ names_lines (place + 1 + 2) (drop (place + 1) all_lists) q rest
+    → list_line (place + 2) (get_or all_lists place d) p text ≡ Ok (q, rest) → whole ≡ names_lines (place + 1 + 2) (drop (place + 1) all_lists) q rest
 line_read place d p q text rest whole within is h =
     let next : place + 2 + 1 ≡ place + 1 + 2 = omega arith in
     is ∙ from_place place d p text within ∙ first_line (place + 2) (get_or all_lists place d) (drop (place + 1) all_lists) p q text rest h ∙ ap (λ n. names_lines n (drop (place + 1) all_lists) q rest) next
 
 pub line_fails : (place : ℕ) (d : NameList) (p : PolicyNames) (text : List ℕ) (e : HeaderError) (whole : Read) → place < length all_lists → whole ≡ names_lines (place + 2) (drop place all_lists) p text
-    → FailsBy is_no_memory e (names_line (place + 2) (get_or all_lists place d) p text) → FailsBy is_no_memory e whole
+    → FailsBy is_no_memory e (list_line (place + 2) (get_or all_lists place d) p text) → FailsBy is_no_memory e whole
 line_fails place d p text e whole within is h = subst (λ (r : Read). FailsBy is_no_memory e r) (sym (is ∙ from_place place d p text within)) (first_fails (place + 2) (get_or all_lists place d) (drop (place + 1) all_lists) p text e h)
 
 pub lines_read : (place : ℕ) (p : PolicyNames) (text : List ℕ) (whole : Read) → length all_lists ≤ place → whole ≡ names_lines (place + 2) (drop place all_lists) p text → whole ≡ Ok (p, text)
@@ -230,60 +278,137 @@ handed_on (Err f) view e whole is h = subst (λ (f : HeaderError). FailsBy is_no
 
 -- ---- the lines of names of a policy
 
+-- the line of grades, where there are some
+abbrev pub grades_for : Names → List ℕ → List ℕ
+grades_for [] rest = rest
+grades_for (name ∷ names) rest = line_for Grades (name ∷ names) ++ rest
+
 -- the lines of names of a policy
 abbrev pub lines_for : PolicyNames → List ℕ → List ℕ
-lines_for p rest = line_for Levels p.levels ++ (line_for Categories p.cats ++ rest)
+lines_for p rest = line_for Levels p.levels ++ (line_for Categories p.cats ++ grades_for p.grades rest)
 
-pub names_round_trip : (p : PolicyNames) (rest : List ℕ) → MakePolicy p → names_lines 2 all_lists no_names (lines_for p rest) ≡ Ok (p, rest)
-names_round_trip p rest h =
+-- the line of grades is there
+grades_there : (name : List ℕ) (names : Names) (rest : List ℕ) → has_no_line Grades (line_for Grades (name ∷ names) ++ rest) ≡ false
+unfolding line_of
+grades_there name names rest =
+    let keyword = codes "grades" in
+    let more = (name ++ after_spaces names) ++ 10 ∷ [] in
+    ap (λ o. not (is_before keyword o)) (split_round_trip 32 keyword (more ++ rest) refl) ∙ ap not (same_itself keyword)
+
+grades_round_trip : (n : ℕ) (p : PolicyNames) (grades : Names) (rest : List ℕ) → list_all is_label_name grades ≡ true → MakePolicy (with_names p Grades grades) → p.grades ≡ [] → has_no_line Grades rest ≡ true
+    → list_line n Grades p (grades_for grades rest) ≡ Ok (with_names p Grades grades, rest)
+grades_round_trip n p [] rest named fine none absent = line_absent n Grades p rest absent ∙ ap (λ (names : Names). Ok (with_names p Grades names, rest)) none
+grades_round_trip n p (name ∷ names) rest named fine none absent = list_line_round_trip n Grades p (name ∷ names) rest (grades_there name names rest) named fine
+
+-- the lines of names are read, where the text after them begins with no line of grades
+pub names_round_trip : (p : PolicyNames) (rest : List ℕ) → MakePolicy p → has_no_line Grades rest ≡ true → names_lines 2 all_lists no_names (lines_for p rest) ≡ Ok (p, rest)
+names_round_trip p rest h absent =
     let levels = with_names no_names Levels p.levels in
-    let after_levels = line_for Categories p.cats ++ rest in
-    first_line 2 Levels (Categories ∷ []) no_names levels (lines_for p rest) after_levels (names_line_round_trip 2 Levels no_names p.levels after_levels (policy_facts p h Levels).named (levels_alone p h))
-    ∙ first_line 3 Categories [] levels p after_levels rest (names_line_round_trip 3 Categories levels p.cats rest (policy_facts p h Categories).named h)
-    ∙ no_lines 4 p rest
+    let cats = with_names levels Categories p.cats in
+    let after_cats = grades_for p.grades rest in
+    let after_levels = line_for Categories p.cats ++ after_cats in
+    first_line 2 Levels (Categories ∷ Grades ∷ []) no_names levels (lines_for p rest) after_levels (list_line_round_trip 2 Levels no_names p.levels after_levels refl (policy_facts p h Levels).named (levels_alone p h))
+    ∙ first_line 3 Categories (Grades ∷ []) levels cats after_levels after_cats (list_line_round_trip 3 Categories levels p.cats after_cats refl (policy_facts p h Categories).named (without_grades p h))
+    ∙ first_line 4 Grades [] cats p after_cats rest (grades_round_trip 4 cats p.grades rest (policy_facts p h Grades).named h refl absent)
+    ∙ no_lines 5 p rest
 
 -- the lines of names with which a text begins, and the text after them
 pub record HasLines (p : PolicyNames) (text rest : List ℕ) : Type 0 where
   pub fine : MakePolicy p
   pub begins : text ≡ lines_for p rest
 
+-- texts that go on after one beginning go on with one byte
+same_next : (start s t : List ℕ) (b c : ℕ) → start ++ b ∷ s ≡ start ++ c ∷ t → b ≡ c
+same_next [] s t b c h = ap (λ (l : List ℕ). get_or l 0 0) h
+same_next (x ∷ start) s t b c h = same_next start s t b c (ap (λ (l : List ℕ). drop 1 l) h)
+
+bare_keyword : (rest : List ℕ) → line_for Grades [] ++ rest ≡ keyword_of Grades ++ 10 ∷ rest
+unfolding line_of
+bare_keyword rest = refl
+
+-- a keyword alone in its line has no space after it
+no_space_after : (keyword rest : List ℕ) → not (is_before keyword (split_once 32 (keyword ++ 10 ∷ rest))) ≡ true
+no_space_after keyword rest = by_split (split_once 32 (keyword ++ 10 ∷ rest)) refl
+  where
+    by_test : (parts : List ℕ × List ℕ) (v : Bool) → split_once 32 (keyword ++ 10 ∷ rest) ≡ Some parts → same_bytes parts.0 keyword ≡ v → not v ≡ true
+    by_test parts false e is = refl
+    by_test parts true e is =
+        let begins : keyword ++ 10 ∷ rest ≡ keyword ++ 32 ∷ parts.1 = split_is 32 (keyword ++ 10 ∷ rest) parts.0 parts.1 e ∙ ap (λ (w : List ℕ). w ++ 32 ∷ parts.1) (same_is parts.0 keyword is) in
+        let next : 10 ≡ 32 = same_next keyword rest parts.1 10 32 begins in
+        absurd (cc next)
+
+    by_split : (o : Option (List ℕ × List ℕ)) → split_once 32 (keyword ++ 10 ∷ rest) ≡ o → not (is_before keyword o) ≡ true
+    by_split None e = refl
+    by_split (Some parts) e = by_test parts (same_bytes parts.0 keyword) e refl
+
+-- a line of grades that is there has names
+some_grades : (names : Names) (rest : List ℕ) → has_no_line Grades (line_for Grades names ++ rest) ≡ false → line_for Grades names ++ rest ≡ grades_for names rest
+some_grades (name ∷ names) rest there = refl
+some_grades [] rest there = absurd (both_ways _ there (ap (has_no_line Grades) (bare_keyword rest) ∙ no_space_after (keyword_of Grades) rest))
+
+grades_are : (n : ℕ) (p q : PolicyNames) (text rest : List ℕ) → MakePolicy p → p.grades ≡ [] → list_line n Grades p text ≡ Ok (q, rest) → (q ≡ with_names p Grades q.grades) × (text ≡ grades_for q.grades rest)
+grades_are n p q text rest fine none h = elim (list_line_is n Grades p q text rest h) [
+  | inl absent ↦
+      let same : ◌≡◌ {A = PolicyNames × List ℕ} (p, text) (q, rest) = let is = absent.0 in cc in
+      subst (λ (x : PolicyNames × List ℕ). (x.0 ≡ with_names p Grades x.0.grades) × (text ≡ grades_for x.0.grades x.1)) same (ap (λ (names : Names). with_names p Grades names) refl, ap (λ (names : Names). grades_for names text) (sym none))
+  | inr there ↦
+      let has = there.0 in
+      let text_is = has.begins in
+      let some = some_grades has.names rest (sym (ap (has_no_line Grades) text_is) ∙ there.1) in
+      subst (λ (x : PolicyNames). (x ≡ with_names p Grades x.grades) × (text ≡ grades_for x.grades rest)) (sym has.same) (refl, text_is ∙ some)
+]
+
 pub names_are : (p : PolicyNames) (text rest : List ℕ) → names_lines 2 all_lists no_names text ≡ Ok (p, rest) → HasLines p text rest
 unfolding names_lines
 names_are p text rest h =
-    let first = bound_is (names_line 2 Levels no_names text) (λ first. names_lines 3 (Categories ∷ []) first.0 first.1) (p, rest) h in
-    let levels = names_line_is 2 Levels no_names first.0.0 text first.0.1 first.1 in
-    let second = bound_is (names_line 3 Categories first.0.0 first.0.1) (λ first. names_lines 4 [] first.0 first.1) (p, rest) first.2 in
-    let cats = names_line_is 3 Categories first.0.0 second.0.0 first.0.1 second.0.1 second.1 in
-    let same : ◌≡◌ {A = PolicyNames × List ℕ} (second.0.0, second.0.1) (p, rest) = cc in
-    let is : second.0.0 ≡ record { levels = levels.names; cats = cats.names } = cats.same ∙ ap (λ (q : PolicyNames). with_names q Categories cats.names) levels.same in
-    let has : HasLines second.0.0 text second.0.1 = record {
-      fine = cats.fine;
-      begins = levels.begins ∙ ap (λ (t : List ℕ). line_for Levels levels.names ++ t) cats.begins ∙ ap (λ (q : PolicyNames). lines_for q second.0.1) (sym is);
+    let first = bound_is (list_line 2 Levels no_names text) (λ first. names_lines 3 (Categories ∷ Grades ∷ []) first.0 first.1) (p, rest) h in
+    let levels = levels_line 2 no_names first.0.0 text first.0.1 first.1 in
+    let second = bound_is (list_line 3 Categories first.0.0 first.0.1) (λ first. names_lines 4 (Grades ∷ []) first.0 first.1) (p, rest) first.2 in
+    let cats = cats_line 3 first.0.0 second.0.0 first.0.1 second.0.1 second.1 in
+    let third = bound_is (list_line 4 Grades second.0.0 second.0.1) (λ first. names_lines 5 [] first.0 first.1) (p, rest) second.2 in
+    let before : second.0.0 ≡ record { levels = levels.names; cats = cats.names; grades = [] } = cats.same ∙ ap (λ (q : PolicyNames). with_names q Categories cats.names) levels.same in
+    let grades = grades_are 4 second.0.0 third.0.0 second.0.1 third.0.1 cats.fine (ap (λ (q : PolicyNames). q.grades) before) third.1 in
+    let same : ◌≡◌ {A = PolicyNames × List ℕ} (third.0.0, third.0.1) (p, rest) = cc in
+    let is : third.0.0 ≡ record { levels = levels.names; cats = cats.names; grades = third.0.0.grades } = grades.0 ∙ ap (λ (q : PolicyNames). with_names q Grades third.0.0.grades) before in
+    let has : HasLines third.0.0 text third.0.1 = record {
+      fine = list_made 4 Grades second.0.0 third.0.0 second.0.1 third.0.1 cats.fine third.1;
+      begins = levels.begins ∙ ap (λ (t : List ℕ). line_for Levels levels.names ++ t) (cats.begins ∙ ap (λ (t : List ℕ). line_for Categories cats.names ++ t) grades.1) ∙ ap (λ (q : PolicyNames). lines_for q third.0.1) (sym is);
     } in
     subst (λ (x : PolicyNames × List ℕ). HasLines x.0 text x.1) same has
 
-pub set_made : (bound : CapSet) → bound_of (set_text bound ∷ []) ≡ Ok bound
+pub set_made : (n : ℕ) (bound : CapSet) → bound_of n (set_text bound ∷ []) ≡ Ok bound
 unfolding bound_of
-set_made bound = ap (canonical_set (set_text bound)) (set_round_trip bound) ∙ ap (λ b. cond b (Ok bound) (Err (error.Form bound_number))) (same_itself (set_text bound))
+set_made n bound = ap (canonical_set n (set_text bound)) (set_round_trip bound) ∙ ap (λ b. cond b (Ok bound) (Err (error.Form n))) (same_itself (set_text bound))
 
-set_is : (words : List (List ℕ)) (bound : CapSet) → bound_of words ≡ Ok bound → words ≡ set_text bound ∷ []
+set_is : (n : ℕ) (words : List (List ℕ)) (bound : CapSet) → bound_of n words ≡ Ok bound → words ≡ set_text bound ∷ []
 unfolding bound_of
-set_is [] bound h = absurd (cc)
-set_is (word ∷ []) bound h = by_set (parse_set word) h
+set_is n [] bound h = absurd (cc)
+set_is n (word ∷ []) bound h = by_set (parse_set word) h
   where
-    by_test : (set : CapSet) (v : Bool) → same_bytes (set_text set) word ≡ v → cond v (Ok set) (Err (error.Form bound_number)) ≡ Ok bound → word ∷ [] ≡ set_text bound ∷ []
+    by_test : (set : CapSet) (v : Bool) → same_bytes (set_text set) word ≡ v → cond v (Ok set) (Err (error.Form n)) ≡ Ok bound → word ∷ [] ≡ set_text bound ∷ []
     by_test set true e h = let same : set ≡ bound = cc in ap (λ (t : List ℕ). t ∷ []) (sym (same_is (set_text set) word e) ∙ ap set_text same)
     by_test set false e h = absurd (cc)
 
-    by_set : (r : Result CapSet CapTextError) → canonical_set word r ≡ Ok bound → word ∷ [] ≡ set_text bound ∷ []
+    by_set : (r : Result CapSet CapTextError) → canonical_set n word r ≡ Ok bound → word ∷ [] ≡ set_text bound ∷ []
     by_set (Ok set) h = by_test set (same_bytes (set_text set) word) refl h
     by_set (Err e) h = absurd (cc)
-set_is (word ∷ other ∷ words) bound h = absurd (cc)
+set_is n (word ∷ other ∷ words) bound h = absurd (cc)
 
-pub bound_round_trip : (bound : CapSet) (rest : List ℕ) → keyword_line bound_number (codes "bound") (line_of (codes "bound" ∷ set_text bound ∷ []) ++ rest) ≡ Ok (set_text bound ∷ [], rest)
-bound_round_trip bound rest =
+-- the line of the bound
+abbrev pub bound_text : CapSet → List ℕ
+bound_text bound = line_of (codes "bound" ∷ set_text bound ∷ [])
+
+-- the line of the bound is none of grades
+pub bound_no_grades : (bound : CapSet) (rest : List ℕ) → has_no_line Grades (bound_text bound ++ rest) ≡ true
+unfolding line_of
+bound_no_grades bound rest =
+    let keyword = codes "bound" in
+    ap (λ o. not (is_before (codes "grades") o)) (split_round_trip 32 keyword (((set_text bound ++ []) ++ 10 ∷ []) ++ rest) refl)
+
+pub bound_round_trip : (n : ℕ) (bound : CapSet) (rest : List ℕ) → keyword_line n (codes "bound") (bound_text bound ++ rest) ≡ Ok (set_text bound ∷ [], rest)
+bound_round_trip n bound rest =
     let bare = and_from (nat_lt 0 (length (set_text bound))) (list_all is_bare (set_text bound)) (lt-ltb 0 (length (set_text bound)) (set_text_some bound)) (set_text_bare bound) in
-    line_round_trip bound_number (codes "bound") (set_text bound ∷ []) rest refl (and_from (is_bare_text (set_text bound)) true bare refl)
+    line_round_trip n (codes "bound") (set_text bound ∷ []) rest refl (and_from (is_bare_text (set_text bound)) true bare refl)
 
-pub bound_are : (text rest : List ℕ) (words : List (List ℕ)) (bound : CapSet) → keyword_line bound_number (codes "bound") text ≡ Ok (words, rest) → bound_of words ≡ Ok bound → text ≡ line_of (codes "bound" ∷ set_text bound ∷ []) ++ rest
-bound_are text rest words bound line set = line_is bound_number (codes "bound") text rest words line ∙ ap (λ (ws : List (List ℕ)). line_of (codes "bound" ∷ ws) ++ rest) (set_is words bound set)
+pub bound_are : (n : ℕ) (text rest : List ℕ) (words : List (List ℕ)) (bound : CapSet) → keyword_line n (codes "bound") text ≡ Ok (words, rest) → bound_of n words ≡ Ok bound → text ≡ bound_text bound ++ rest
+bound_are n text rest words bound line set = line_is n (codes "bound") text rest words line ∙ ap (λ (ws : List (List ℕ)). line_of (codes "bound" ∷ ws) ++ rest) (set_is n words bound set)

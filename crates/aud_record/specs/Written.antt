@@ -1,5 +1,5 @@
 -- The texts of the audit trail: its header, and one line for each record.
-use Rattle.std.specs.Prelude.{ℕ, Bool, cond, List, [], ◌∷◌, ◌++◌, map, codes}
+use Rattle.std.specs.Prelude.{ℕ, Bool, cond, List, [], ◌∷◌, ◌++◌, codes}
 use Rattle.std.specs.Fmt.{decimal}
 use Rattle.std.specs.List.{flat_map}
 use Rattle.cap_bits.specs.Cap.{cap_name}
@@ -7,7 +7,6 @@ use Rattle.cap_bits.specs.CapSet.{CapSet}
 use Rattle.cap_clause.specs.Written.{set_text}
 use Rattle.fs_path.specs.Words.{quoted_text, line_text}
 use Rattle.lab_lattice.specs.Label.{Label}
-use Rattle.lab_text.specs.Lists.{all_lists}
 use Rattle.lab_text.specs.Policy.{PolicyNames}
 use Rattle.lab_text.specs.Text.{label_text}
 use Rattle.kern_model.specs.Names.{word_of, check_word, errno_word, place_text, ending_text}
@@ -16,7 +15,7 @@ use Rattle.kern_model.specs.declared.numbers.Oid.{Oid}
 use Rattle.kern_model.specs.declared.records.Exercise.{Exercise}
 use Rattle.kern_model.specs.declared.records.Rec.{Rec}
 use Rattle.kern_model.specs.declared.records.Rec.TheVariants as rec
-use Rattle.line_text.specs.Words.{pid_text, oid_text, caps_word, thing_text, new_label_text, list_words}
+use Rattle.line_text.specs.Words.{pid_text, oid_text, caps_word, thing_text, new_label_text, names_lines}
 use Rattle.aud_record.specs.Events.{event_of, event_word}
 
 -- whether the trail is on
@@ -66,9 +65,9 @@ rec_words p r = event_word (event_of r) ∷ pid_text p (who_of r) ∷ rest_words
 unfoldable pub rec_text : PolicyNames → ℕ → Rec → List ℕ
 rec_text p call r = line_of (decimal call ∷ rec_words p r)
 
--- the words of the lines before the records: the format, the names of the world and its bound
+-- the words of the lines before the records: the format, the names of the world list by list, and its bound
 abbrev pub header_words : PolicyNames → CapSet → List (List (List ℕ))
-header_words p bound = (codes "trail" ∷ codes "1" ∷ []) ∷ (map (list_words p) all_lists ++ (codes "bound" ∷ set_text bound ∷ []) ∷ [])
+header_words p bound = (codes "trail" ∷ codes "1" ∷ []) ∷ (names_lines p ++ (codes "bound" ∷ set_text bound ∷ []) ∷ [])
 
 unfoldable pub header_text : PolicyNames → CapSet → List ℕ
 header_text p bound = flat_map line_of (header_words p bound)

@@ -5,19 +5,16 @@ ghost use Rattle.fs_path.specs.Split.{pieces_of_rest};
 ghost use Rattle.lab_text.specs.Lists.{all_lists};
 ghost use Rattle.lab_text.specs.Policy.{PolicyNames, no_names, MakePolicy};
 ghost use Rattle.aud_record.specs.Results.{AnswersAs};
-ghost use Rattle.aud_record.specs.Header.{is_no_memory, header_of, format_line, keyword_line, names_error, names_line, names_lines, set_error, bound_of, parse_header};
+ghost use Rattle.aud_record.specs.Header.{is_no_memory, header_of, format_line, keyword_line, names_error, names_line, has_no_line, list_line, names_lines, bound_number, set_error, bound_of, parse_header};
 ghost use Rattle.aud_record.specs.Written.{header_text};
 
 use crate::NoMemory;
 use cap_bits::CapSet;
 use cap_clause::{CapTextError, set_from_text, set_to_text};
-use fs_path::{List, first_piece, next_line};
+use fs_path::{List, first_piece, next_line, split_once};
 use lab_text::{NameList, Policy, PolicyError, PolicyNames, Word};
 use line_text::LineWriter;
 use std::alloc::Global;
-
-// The number of the last line, that of the bound.
-const BOUND_LINE: usize = NameList::ALL.len() + 2;
 
 /// A header that was read.
 #[derive(Debug)]
@@ -44,7 +41,7 @@ pub enum HeaderError {
     /// The line does not have the form that is due, or has no line feed. A word that can be no name and a set that is not
     /// written in its canonical way are faults of the form.
     Form(usize),
-    /// The line has more names than there may be, names a level or a category twice, or names an unknown capability.
+    /// The line has more names than there may be, has a name twice, or names an unknown capability.
     Name(usize),
     /// Memory ran out.
     NoMemory(NoMemory),
@@ -60,7 +57,7 @@ impl From<NoMemory> for HeaderError {
     }
 }
 
-/// The lines before the records: the format, the names of the world's levels and categories, and its bound.
+/// The lines before the records: the format, the names of the world's levels, categories and grades, and its bound.
 #[tactic(auto, unfolding(crate::specs::Written::line_of, crate::specs::Written::header_text))]
 pub fn header_text(alloc: Global, policy: &Policy, bound: &CapSet) -> Result<Vec<u8>, NoMemory>
     ensures { IfOk result (λ text. text.items ≡ header_text policy.now bound.now) }
@@ -139,6 +136,35 @@ fn names_line<'a>(
     }
 }
 
+// Whether a list has no line where a text begins. An optional line is there where its keyword and a space are.
+fn has_no_line(list: NameList, text: &[u8]) -> bool
+    ensures { result ≡ has_no_line list text.now }
+{
+    let is_there = match split_once(text, b' ') {
+        Some((word, _)) => word == list.keyword(),
+        None => false,
+    };
+    list.line_is_optional() && !is_there
+}
+
+// Adds the names of a list, where a text begins with its line, and returns the text after the line.
+#[tactic(auto, unfolding(crate::specs::Header::list_line))]
+fn list_line<'a>(
+    alloc: Global,
+    number: usize,
+    list: NameList,
+    names: &mut PolicyNames,
+    text: &'a [u8],
+) -> Result<&'a [u8], HeaderError>
+    ensures line { AnswersAs is_no_memory (λ rest. (names.new, rest.now)) result (list_line number list names.old text.now) }
+    ensures shorter { IfOk result (λ rest. length rest.now ≤ length text.now) }
+{
+    if has_no_line(list, text) {
+        return Ok(text);
+    }
+    names_line(alloc, number, list, names, text)
+}
+
 // The policy of the lines of names, with which a text begins, and the text after them.
 fn names_lines(alloc: Global, text: &[u8]) -> Result<(Policy, &[u8]), HeaderError>
     ensures lines { AnswersAs is_no_memory (λ x. (x.0, x.1.now)) result (names_lines 2 all_lists no_names text.now) }
@@ -147,33 +173,41 @@ fn names_lines(alloc: Global, text: &[u8]) -> Result<(Policy, &[u8]), HeaderErro
     let mut names = PolicyNames::empty(alloc);
     let mut rest = text;
     for (place, list) in NameList::ALL.iter().enumerate() {
-        rest = names_line(alloc, place + 2, *list, &mut names, rest)?;
+        rest = list_line(alloc, place + 2, *list, &mut names, rest)?;
     }
     Ok((names.into_policy(), rest))
 }
 
-// What is wrong in the line of the bound, which denotes no set.
-fn set_error(error: CapTextError) -> HeaderError
-    ensures { result ≡ set_error error }
+// The number of the last line, that of the bound, which comes after the lines of names.
+#[tactic(auto, using(line_text::proofs::NameLemmas::none_by_length))]
+fn bound_number(policy: &Policy) -> usize
+    ensures { result ≡ bound_number policy.now }
+{
+    if policy.grades().is_empty() { 4 } else { 5 }
+}
+
+// What is wrong in the line with this number, which denotes no set.
+fn set_error(number: usize, error: CapTextError) -> HeaderError
+    ensures { result ≡ set_error number error }
 {
     match error {
-        CapTextError::UnknownName(_) => HeaderError::Name(BOUND_LINE),
-        _ => HeaderError::Form(BOUND_LINE),
+        CapTextError::UnknownName(_) => HeaderError::Name(number),
+        _ => HeaderError::Form(number),
     }
 }
 
-// The set of which the only word is the canonical text.
+// The set of which the only word of the line with this number is the canonical text.
 #[tactic(auto, unfolding(crate::specs::Header::bound_of))]
-fn bound_of(alloc: Global, words: &[Word]) -> Result<CapSet, HeaderError>
-    ensures { AnswersAs is_no_memory (λ bound. bound) result (bound_of words.now) }
+fn bound_of(alloc: Global, number: usize, words: &[Word]) -> Result<CapSet, HeaderError>
+    ensures { AnswersAs is_no_memory (λ bound. bound) result (bound_of number words.now) }
 {
     let [word] = words else {
-        return Err(HeaderError::Form(BOUND_LINE));
+        return Err(HeaderError::Form(number));
     };
-    let bound = set_from_text(word.bytes()).map_err(set_error)?;
+    let bound = set_from_text(word.bytes()).map_err(|error| set_error(number, error))?;
     let text = set_to_text(alloc, &bound)?;
     if text.as_slice() != word.bytes() {
-        return Err(HeaderError::Form(BOUND_LINE));
+        return Err(HeaderError::Form(number));
     }
     Ok(bound)
 }
@@ -195,8 +229,9 @@ fn first_header(alloc: Global, text: &[u8]) -> Result<Header, HeaderError>
 {
     let rest = format_line(text)?;
     let (policy, rest) = names_lines(alloc, rest)?;
-    let (words, rest) = keyword_line(alloc, BOUND_LINE, b"bound", rest)?;
-    let bound = bound_of(alloc, words.items())?;
+    let number = bound_number(&policy);
+    let (words, rest) = keyword_line(alloc, number, b"bound", rest)?;
+    let bound = bound_of(alloc, number, words.items())?;
     Ok(Header {
         policy,
         bound,

@@ -6,7 +6,7 @@ use Rattle.kern_model.specs.declared.calls.Errno.{Errno}
 use Rattle.kern_model.specs.declared.checks.Check.{Check}
 use Rattle.kern_model.specs.Row.{Row, Need, Refuse, CheckOutcome}
 use Rattle.chk_rules.specs.CheckLog.{CheckLog, judge_from}
-use Rattle.chk_rules.specs.Ends.{EndsBy, GoesOn}
+use Rattle.chk_rules.specs.RowSteps.{EndsBy, GoesOn}
 use Rattle.chk_rules.specs.declared.stop.Stop.{Stop}
 
 -- a row ends as an equal row does

@@ -1,2 +1,2 @@
 pub mod CheckLog
-pub mod Ends
+pub mod RowSteps

@@ -2,7 +2,7 @@
 ghost use Rattle.std.specs.Prelude.{◌≡◌, ◌++◌, IfOk, OnErr, OnOk, Some, false, true};
 ghost use Rattle.kern_model.specs.Row.{exercise_with, verdict_of, Need, Refuse, Soft};
 ghost use Rattle.chk_rules.specs.CheckLog.{CheckLog, check_log, noting};
-ghost use Rattle.chk_rules.specs.Ends.{GoesOn};
+ghost use Rattle.chk_rules.specs.RowSteps.{GoesOn};
 
 use crate::Stop;
 use cap_bits::{Cap, CapSet};
@@ -118,7 +118,7 @@ impl Checks {
 }
 
 /// Makes a check that has to let the call go on: where it is denied, the call stops.
-#[tactic(auto, unfolding(kern_model::specs::Row::judge, crate::specs::Ends::EndsBy))]
+#[tactic(auto, unfolding(kern_model::specs::Row::judge, crate::specs::RowSteps::EndsBy))]
 #[inline(always)]
 pub fn must(checks: &mut Checks, check: &Check) -> Result<(), Stop>
     ensures { GoesOn checks.old (λ rest. Need check.now (rest tt)) result checks.new }
@@ -130,7 +130,7 @@ pub fn must(checks: &mut Checks, check: &Check) -> Result<(), Stop>
 }
 
 /// Makes a check that stops nothing, and returns whether it lets the call go on in full.
-#[tactic(auto, unfolding(kern_model::specs::Row::judge, crate::specs::Ends::EndsBy))]
+#[tactic(auto, unfolding(kern_model::specs::Row::judge, crate::specs::RowSteps::EndsBy))]
 #[inline(always)]
 pub fn prefer(checks: &mut Checks, check: &Check) -> Result<bool, Stop>
     ensures { GoesOn checks.old (λ rest. Soft check.now (rest true) (rest false)) result checks.new }
@@ -142,7 +142,7 @@ pub fn prefer(checks: &mut Checks, check: &Check) -> Result<bool, Stop>
 }
 
 /// Refuses the call where the condition holds.
-#[tactic(auto, unfolding(kern_model::specs::Row::judge, crate::specs::Ends::EndsBy))]
+#[tactic(auto, unfolding(kern_model::specs::Row::judge, crate::specs::RowSteps::EndsBy))]
 pub fn refuse_if(holds: bool, errno: Errno) -> Result<(), Stop>
     ensures { (log : CheckLog) → GoesOn log (λ rest. Refuse errno holds (rest tt)) result log }
 {

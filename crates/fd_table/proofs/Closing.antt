@@ -19,23 +19,23 @@ use Rattle.kern_model.specs.Descriptors.{Descriptor, closing, descriptors, empti
 use Rattle.kern_model.specs.Keys.{did_cmp, oid_cmp, pid_cmp, same_did, same_oid, same_pid}
 use Rattle.kern_model.specs.Kinds.{is_fifo}
 use Rattle.kern_model.specs.Maps.{any_entry}
-use Rattle.kern_model.specs.ProcessRows.{ending_of, survives}
+use Rattle.kern_model.specs.ProcessRows.{ending_of, changes_after_end}
 use Rattle.kern_model.specs.State.{State, Process, Description, Change, DropDescription, DropProcess, SetProcess, changed, changed_by, object_at, stub_object}
 use Rattle.kern_model.specs.Valid.{IsHeld, IsThere}
 use Rattle.kern_model.proofs.KeyLaws.{did_cmp_total, did_cmp_exact, oid_cmp_total, oid_cmp_exact, pid_cmp_total, pid_cmp_exact}
 use Rattle.kern_model.proofs.MapLemmas.{get_or-absent, get_or-found, get_or-same, never_some, same_key}
 use Rattle.kern_model.proofs.Selections.{none_pass, none_passes}
-use Rattle.num_table.proofs.Sorted.{same_itself}
+use Rattle.kern_model.proofs.SortedEntries.{same_itself}
 use Rattle.fd_table.specs.Files.{OpenFiles, drained, emptied_if, is_held, is_open, is_unused, left_with}
-use Rattle.fd_table.specs.Rows.{AllFds, Fds, row_of}
+use Rattle.fd_table.specs.Fds.{AllFds, Fds, fds_of}
 use Rattle.fd_table.proofs.Dropping.{get-gone, get-kept, held_by}
 use Rattle.fd_table.proofs.Leaving.{get-drained}
 
 -- a table that has the descriptors of the processes of a state, and its descriptions, each of which some process holds
 pub record Shows (s : State) (t : OpenFiles) : Type 0 where
   pub descriptions : s.descriptions ≡ t.descriptions
-  pub fds : (who : Pid) (p : Process) → map.get s.procs who ≡ Some p → p.fds ≡ row_of t.rows who
-  pub living : (who : Pid) (fd : ℕ) (did : Did) → map.get (row_of t.rows who) fd ≡ Some did → IsThere s.procs who
+  pub fds : (who : Pid) (p : Process) → map.get s.procs who ≡ Some p → p.fds ≡ fds_of t.processes who
+  pub living : (who : Pid) (fd : ℕ) (did : Did) → map.get (fds_of t.processes who) fd ≡ Some did → IsThere s.procs who
   pub held : (did : Did) (d : Description) → map.get s.descriptions did ≡ Some d → IsHeld s did
 
 -- ---- tests
@@ -86,27 +86,27 @@ module _ (s : State) (p : Descriptor → Bool) where
       none_pass nat_cmp_total nat_cmp-IsAntisymmetric (λ (fd : ℕ) (did : Did). p (record { who = who; fd = fd; did = did })) q.fds (h who q is))
 
 -- ---- whether a description is held
-module _ (rows : AllFds) (q : Did) where
+module _ (processes : AllFds) (q : Did) where
   abbrev on_it : ℕ → Did → Bool
   on_it fd did = same_did did q
 
-  abbrev in_row : Pid → Fds → Bool
-  in_row who fds = any_entry on_it fds
+  abbrev in_fds : Pid → Fds → Bool
+  in_fds who fds = any_entry on_it fds
 
   -- no descriptor refers to what is not held
-  not_held : is_held rows q ≡ false → (who : Pid) (fd : ℕ) (did : Did) → map.get (row_of rows who) fd ≡ Some did → same_did did q ≡ false
+  not_held : is_held processes q ≡ false → (who : Pid) (fd : ℕ) (did : Did) → map.get (fds_of processes who) fd ≡ Some did → same_did did q ≡ false
   unfolding is_held
-  not_held never who fd did at = elim (map.get rows who) as (λ w. map.get rows who ≡ w → same_did did q ≡ false) [
-    | None ↦ λ none. absurd (never_some (map.get (row_of rows who) fd) did (ap (λ (fds : Fds). map.get fds fd) (get_or-absent rows who map.empty none) ∙ get-empty nat_cmp fd) at)
+  not_held never who fd did at = elim (map.get processes who) as (λ w. map.get processes who ≡ w → same_did did q ≡ false) [
+    | None ↦ λ none. absurd (never_some (map.get (fds_of processes who) fd) did (ap (λ (fds : Fds). map.get fds fd) (get_or-absent processes who map.empty none) ∙ get-empty nat_cmp fd) at)
     | Some fds ↦ λ there.
-        none_passes nat_cmp_total nat_cmp-IsAntisymmetric on_it fds (none_passes pid_cmp_total pid_cmp_exact in_row rows never who fds there) fd did
-        (ap (λ (m : Fds). map.get m fd) (sym (get_or-found rows who map.empty fds there)) ∙ at)
+        none_passes nat_cmp_total nat_cmp-IsAntisymmetric on_it fds (none_passes pid_cmp_total pid_cmp_exact in_fds processes never who fds there) fd did
+        (ap (λ (m : Fds). map.get m fd) (sym (get_or-found processes who map.empty fds there)) ∙ at)
   ] refl
 
-  none_hold : ((who : Pid) (fd : ℕ) (did : Did) → map.get (row_of rows who) fd ≡ Some did → same_did did q ≡ false) → is_held rows q ≡ false
+  none_hold : ((who : Pid) (fd : ℕ) (did : Did) → map.get (fds_of processes who) fd ≡ Some did → same_did did q ≡ false) → is_held processes q ≡ false
   unfolding is_held
-  none_hold h = none_pass pid_cmp_total pid_cmp_exact in_row rows (λ who fds there.
-      none_pass nat_cmp_total nat_cmp-IsAntisymmetric on_it fds (λ fd did at. h who fd did (ap (λ (m : Fds). map.get m fd) (get_or-found rows who map.empty fds there) ∙ at)))
+  none_hold h = none_pass pid_cmp_total pid_cmp_exact in_fds processes (λ who fds there.
+      none_pass nat_cmp_total nat_cmp-IsAntisymmetric on_it fds (λ fd did at. h who fd did (ap (λ (m : Fds). map.get m fd) (get_or-found processes who map.empty fds there) ∙ at)))
 
 -- ---- changes one after another
 pub changed_by-append : (s : State) (cs ds : List Change) → changed_by s (cs ++ ds) ≡ changed_by (changed_by s cs) ds
@@ -190,26 +190,26 @@ record StaysOpen (s : State) (goes : Descriptor → Bool) (who : Pid) (fd : ℕ)
   fd_is : map.get process.fds fd ≡ Some did
   stays : goes (record { who = who; fd = fd; did = did }) ≡ false
 
--- rows of the descriptors that do not close
-record Leaves (s : State) (goes : Descriptor → Bool) (rows : AllFds) : Type 0 where
-  kept : (who : Pid) (p : Process) → map.get s.procs who ≡ Some p → (fd : ℕ) (did : Did) → map.get p.fds fd ≡ Some did → goes (record { who = who; fd = fd; did = did }) ≡ false → map.get (row_of rows who) fd ≡ Some did
-  only : (who : Pid) (fd : ℕ) (did : Did) → map.get (row_of rows who) fd ≡ Some did → StaysOpen s goes who fd did
+-- processes with the descriptors that do not close
+record Leaves (s : State) (goes : Descriptor → Bool) (processes : AllFds) : Type 0 where
+  kept : (who : Pid) (p : Process) → map.get s.procs who ≡ Some p → (fd : ℕ) (did : Did) → map.get p.fds fd ≡ Some did → goes (record { who = who; fd = fd; did = did }) ≡ false → map.get (fds_of processes who) fd ≡ Some did
+  only : (who : Pid) (fd : ℕ) (did : Did) → map.get (fds_of processes who) fd ≡ Some did → StaysOpen s goes who fd did
 
-module _ (s : State) (t : OpenFiles) (shows : Shows s t) (goes : Descriptor → Bool) (rows : AllFds) (leaves : Leaves s goes rows) where
+module _ (s : State) (t : OpenFiles) (shows : Shows s t) (goes : Descriptor → Bool) (processes : AllFds) (leaves : Leaves s goes processes) where
   -- what stays held
-  stay_held : (q : Did) → list_any (λ (f : Descriptor). not (goes f) && same_did f.did q) (descriptors s) ≡ is_held rows q
+  stay_held : (q : Did) → list_any (λ (f : Descriptor). not (goes f) && same_did f.did q) (descriptors s) ≡ is_held processes q
   stay_held q = same_tests _ _
-      (λ never. none_hold rows q (λ who fd did at.
+      (λ never. none_hold processes q (λ who fd did at.
       let stays = leaves.only who fd did at in
       ap (λ b. not b && same_did did q) (sym stays.stays) ∙ none_at s (λ (f : Descriptor). not (goes f) && same_did f.did q) never who stays.process stays.process_is fd did stays.fd_is))
       (λ never. none_all s (λ (f : Descriptor). not (goes f) && same_did f.did q) (λ who p is fd did at.
       elim (goes (record { who = who; fd = fd; did = did })) as (λ b. goes (record { who = who; fd = fd; did = did }) ≡ b → (not b && same_did did q) ≡ false) [
         | true ↦ λ _. refl
-        | false ↦ λ stays. not_held rows q never who fd did (leaves.kept who p is fd did at stays)
+        | false ↦ λ stays. not_held processes q never who fd did (leaves.kept who p is fd did at stays)
       ] refl))
 
   -- a description goes where none holds it any more
-  let_go_is : (q : Did) (d : Description) → map.get s.descriptions q ≡ Some d → is_let_go s goes q ≡ not (is_held rows q)
+  let_go_is : (q : Did) (d : Description) → map.get s.descriptions q ≡ Some d → is_let_go s goes q ≡ not (is_held processes q)
   let_go_is q d at = alone _ _ some ∙ ap not (stay_held q)
     where
       alone : (a b : Bool) → (a ≡ false → b ≡ false → ⊥) → (a && not b) ≡ not b
@@ -230,7 +230,7 @@ module _ (s : State) (t : OpenFiles) (shows : Shows s t) (goes : Descriptor → 
 
   -- ---- descriptions
   abbrev left : FinMap did_cmp Description
-  left = held_by rows s.descriptions
+  left = held_by processes s.descriptions
 
   abbrev goes_at : Did → Did → Description → Bool
   goes_at q did d = is_let_go s goes did && same_did q did
@@ -248,10 +248,10 @@ module _ (s : State) (t : OpenFiles) (shows : Shows s t) (goes : Descriptor → 
       first true e = absurd (true≢false (sym (same_itself did_cmp_total q) ∙ e))
       first false e = refl
 
-  get-left : (q : Did) → map.get left q ≡ cond (is_held rows q) (map.get s.descriptions q) None
-  get-left q = elim (is_held rows q) as (λ b. is_held rows q ≡ b → map.get left q ≡ cond b (map.get s.descriptions q) None) [
-    | true ↦ get-kept rows s.descriptions q
-    | false ↦ get-gone rows s.descriptions q
+  get-left : (q : Did) → map.get left q ≡ cond (is_held processes q) (map.get s.descriptions q) None
+  get-left q = elim (is_held processes q) as (λ b. is_held processes q ≡ b → map.get left q ≡ cond b (map.get s.descriptions q) None) [
+    | true ↦ get-kept processes s.descriptions q
+    | false ↦ get-gone processes s.descriptions q
   ] refl
 
   without_is : without s goes (map.entries s.descriptions) s.descriptions ≡ left
@@ -268,11 +268,11 @@ module _ (s : State) (t : OpenFiles) (shows : Shows s t) (goes : Descriptor → 
       opposite true d = refl
       opposite false d = refl
 
-      at : (q : Did) (w : Option Description) → map.get s.descriptions q ≡ w → cond (any_entry (goes_at q) s.descriptions) None (map.get s.descriptions q) ≡ cond (is_held rows q) (map.get s.descriptions q) None
-      at q None e = ap (cond (any_entry (goes_at q) s.descriptions) None) e ∙ nothing (any_entry (goes_at q) s.descriptions) (is_held rows q) ∙ ap (λ (w : Option Description). cond (is_held rows q) w None) (sym e)
+      at : (q : Did) (w : Option Description) → map.get s.descriptions q ≡ w → cond (any_entry (goes_at q) s.descriptions) None (map.get s.descriptions q) ≡ cond (is_held processes q) (map.get s.descriptions q) None
+      at q None e = ap (cond (any_entry (goes_at q) s.descriptions) None) e ∙ nothing (any_entry (goes_at q) s.descriptions) (is_held processes q) ∙ ap (λ (w : Option Description). cond (is_held processes q) w None) (sym e)
       at q (Some d) e =
           ap (cond (any_entry (goes_at q) s.descriptions) None) e ∙ ap (λ b. cond b None (Some d)) (goes_itself q d e ∙ let_go_is q d e)
-          ∙ opposite (is_held rows q) d ∙ ap (λ (w : Option Description). cond (is_held rows q) w None) (sym e)
+          ∙ opposite (is_held processes q) d ∙ ap (λ (w : Option Description). cond (is_held processes q) w None) (sym e)
 
   -- ---- objects
   module _ (q : Oid) where
@@ -294,15 +294,15 @@ module _ (s : State) (t : OpenFiles) (shows : Shows s t) (goes : Descriptor → 
     still_open : stays_open ≡ is_open left q
     still_open = same_tests _ _
         (λ never. none_pass did_cmp_total did_cmp_exact on_object left (λ k d e.
-        elim (is_held rows k) as (λ b. is_held rows k ≡ b → same_oid d.object q ≡ false) [
+        elim (is_held processes k) as (λ b. is_held processes k ≡ b → same_oid d.object q ≡ false) [
           | true ↦ λ held.
-              let at : map.get s.descriptions k ≡ Some d = sym (get-kept rows s.descriptions k held) ∙ e in
+              let at : map.get s.descriptions k ≡ Some d = sym (get-kept processes s.descriptions k held) ∙ e in
               first (same_oid d.object q) (ap (λ b. same_oid d.object q && not b) (sym (let_go_is k d at ∙ ap not held)) ∙ none_passes did_cmp_total did_cmp_exact stays_on s.descriptions never k d at)
-          | false ↦ λ gone. absurd (never_some (map.get left k) d (get-gone rows s.descriptions k gone) e)
+          | false ↦ λ gone. absurd (never_some (map.get left k) d (get-gone processes s.descriptions k gone) e)
         ] refl))
         (λ never. none_pass did_cmp_total did_cmp_exact stays_on s.descriptions (λ k d at.
-        elim (is_held rows k) as (λ b. is_held rows k ≡ b → (same_oid d.object q && not (is_let_go s goes k)) ≡ false) [
-          | true ↦ λ held. ap (λ b. b && not (is_let_go s goes k)) (none_passes did_cmp_total did_cmp_exact on_object left never k d (get-kept rows s.descriptions k held ∙ at))
+        elim (is_held processes k) as (λ b. is_held processes k ≡ b → (same_oid d.object q && not (is_let_go s goes k)) ≡ false) [
+          | true ↦ λ held. ap (λ b. b && not (is_let_go s goes k)) (none_passes did_cmp_total did_cmp_exact on_object left never k d (get-kept processes s.descriptions k held ∙ at))
           | false ↦ λ gone. both_false (same_oid d.object q) (not (is_let_go s goes k)) (ap not (let_go_is k d at ∙ ap not gone))
         ] refl))
       where
@@ -381,35 +381,35 @@ module _ (s : State) (t : OpenFiles) (shows : Shows s t) (goes : Descriptor → 
 
   -- what is left where these descriptors close
   closing_is : (procs : FinMap pid_cmp Process) → changed_by (record s { procs = procs }) (closing s goes)
-      ≡ record s { procs = procs; descriptions = (left_with t rows).descriptions; objects = drained s.descriptions (left_with t rows).descriptions s.objects }
+      ≡ record s { procs = procs; descriptions = (left_with t processes).descriptions; objects = drained s.descriptions (left_with t processes).descriptions s.objects }
   unfolding closing
   closing_is procs =
       all_let_go s goes (map.entries s.descriptions) (record s { procs = procs })
       ∙ (λ i. record s { procs = procs; descriptions = without_is i; objects = emptied_is i })
-      ∙ ap (λ (ds : FinMap did_cmp Description). record s { procs = procs; descriptions = held_by rows ds; objects = drained s.descriptions (held_by rows ds) s.objects }) shows.descriptions
+      ∙ ap (λ (ds : FinMap did_cmp Description). record s { procs = procs; descriptions = held_by processes ds; objects = drained s.descriptions (held_by processes ds) s.objects }) shows.descriptions
 
--- ---- the rows of a table, of which one is set or goes
-module _ (rows : AllFds) (who q : Pid) where
-  row_of-insert : (fds : Fds) → row_of (map.insert rows who fds) q ≡ cond (same_pid q who) fds (row_of rows q)
-  row_of-insert fds = elim (same_pid q who) as (λ b. same_pid q who ≡ b → row_of (map.insert rows who fds) q ≡ cond b fds (row_of rows q)) [
-    | true ↦ λ same. get_or-found (map.insert rows who fds) q map.empty fds (get-insert pid_cmp_total rows who fds q ∙ ap (λ b. cond b (Some fds) (map.get rows q)) same)
-    | false ↦ λ other. get_or-same (map.insert rows who fds) rows q map.empty (get-insert pid_cmp_total rows who fds q ∙ ap (λ b. cond b (Some fds) (map.get rows q)) other)
+-- ---- the processes of a table, of which one is set or goes
+module _ (processes : AllFds) (who q : Pid) where
+  fds_of-insert : (fds : Fds) → fds_of (map.insert processes who fds) q ≡ cond (same_pid q who) fds (fds_of processes q)
+  fds_of-insert fds = elim (same_pid q who) as (λ b. same_pid q who ≡ b → fds_of (map.insert processes who fds) q ≡ cond b fds (fds_of processes q)) [
+    | true ↦ λ same. get_or-found (map.insert processes who fds) q map.empty fds (get-insert pid_cmp_total processes who fds q ∙ ap (λ b. cond b (Some fds) (map.get processes q)) same)
+    | false ↦ λ other. get_or-same (map.insert processes who fds) processes q map.empty (get-insert pid_cmp_total processes who fds q ∙ ap (λ b. cond b (Some fds) (map.get processes q)) other)
   ] refl
 
-  row_of-remove : row_of (map.remove rows who) q ≡ cond (same_pid q who) map.empty (row_of rows q)
-  row_of-remove = elim (same_pid q who) as (λ b. same_pid q who ≡ b → row_of (map.remove rows who) q ≡ cond b map.empty (row_of rows q)) [
-    | true ↦ λ same. get_or-absent (map.remove rows who) q map.empty (get-remove pid_cmp_total rows who q ∙ ap (λ b. cond b None (map.get rows q)) same)
-    | false ↦ λ other. get_or-same (map.remove rows who) rows q map.empty (get-remove pid_cmp_total rows who q ∙ ap (λ b. cond b None (map.get rows q)) other)
+  fds_of-remove : fds_of (map.remove processes who) q ≡ cond (same_pid q who) map.empty (fds_of processes q)
+  fds_of-remove = elim (same_pid q who) as (λ b. same_pid q who ≡ b → fds_of (map.remove processes who) q ≡ cond b map.empty (fds_of processes q)) [
+    | true ↦ λ same. get_or-absent (map.remove processes who) q map.empty (get-remove pid_cmp_total processes who q ∙ ap (λ b. cond b None (map.get processes q)) same)
+    | false ↦ λ other. get_or-same (map.remove processes who) processes q map.empty (get-remove pid_cmp_total processes who q ∙ ap (λ b. cond b None (map.get processes q)) other)
   ] refl
 
 -- ---- the rows of the calls
 module _ (s : State) (t : OpenFiles) (shows : Shows s t) (who : Pid) where
-  open_in : (goes : Descriptor → Bool) (q : Pid) (f : ℕ) (did : Did) → map.get (row_of t.rows q) f ≡ Some did → goes (record { who = q; fd = f; did = did }) ≡ false → StaysOpen s goes q f did
+  open_in : (goes : Descriptor → Bool) (q : Pid) (f : ℕ) (did : Did) → map.get (fds_of t.processes q) f ≡ Some did → goes (record { who = q; fd = f; did = did }) ≡ false → StaysOpen s goes q f did
   open_in goes q f did at stays =
       let there = shows.living q f did at in
       record { process = there.value; process_is = there.is; fd_is = ap (λ (m : Fds). map.get m f) (shows.fds q there.value there.is) ∙ at; stays = stays }
 
-  shown : (q : Pid) (p : Process) → map.get s.procs q ≡ Some p → (f : ℕ) (did : Did) → map.get p.fds f ≡ Some did → map.get (row_of t.rows q) f ≡ Some did
+  shown : (q : Pid) (p : Process) → map.get s.procs q ≡ Some p → (f : ℕ) (did : Did) → map.get p.fds f ≡ Some did → map.get (fds_of t.processes q) f ≡ Some did
   shown q p is f did at = ap (λ (m : Fds). map.get m f) (sym (shows.fds q p is)) ∙ at
 
   -- one descriptor closes
@@ -418,67 +418,67 @@ module _ (s : State) (t : OpenFiles) (shows : Shows s t) (who : Pid) where
     closes d = same_pid d.who who && d.fd == fd
 
     abbrev one_less : Fds
-    one_less = map.remove (row_of t.rows who) fd
+    one_less = map.remove (fds_of t.processes who) fd
 
-    get-one_less : (f : ℕ) → map.get one_less f ≡ cond (f == fd) None (map.get (row_of t.rows who) f)
-    get-one_less f = get-remove nat_cmp_total (row_of t.rows who) fd f ∙ ap (λ b. cond b None (map.get (row_of t.rows who) f)) (unsigned_tied f fd)
+    get-one_less : (f : ℕ) → map.get one_less f ≡ cond (f == fd) None (map.get (fds_of t.processes who) f)
+    get-one_less f = get-remove nat_cmp_total (fds_of t.processes who) fd f ∙ ap (λ b. cond b None (map.get (fds_of t.processes who) f)) (unsigned_tied f fd)
 
-    leaves_others : Leaves s closes (map.insert t.rows who one_less)
+    leaves_others : Leaves s closes (map.insert t.processes who one_less)
     leaves_others = record {
       kept = λ q p is f did at stays.
-          ap (λ (m : Fds). map.get m f) (row_of-insert t.rows who q one_less)
-          ∙ elim (same_pid q who) as (λ b. same_pid q who ≡ b → (b && (f == fd)) ≡ false → map.get (cond b one_less (row_of t.rows q)) f ≡ Some did) [
+          ap (λ (m : Fds). map.get m f) (fds_of-insert t.processes who q one_less)
+          ∙ elim (same_pid q who) as (λ b. same_pid q who ≡ b → (b && (f == fd)) ≡ false → map.get (cond b one_less (fds_of t.processes q)) f ≡ Some did) [
             | true ↦ λ same other.
-                get-one_less f ∙ ap (λ b. cond b None (map.get (row_of t.rows who) f)) other
-                ∙ ap (λ (w : Pid). map.get (row_of t.rows w) f) (sym (same_key pid_cmp_exact q who same)) ∙ shown q p is f did at
+                get-one_less f ∙ ap (λ b. cond b None (map.get (fds_of t.processes who) f)) other
+                ∙ ap (λ (w : Pid). map.get (fds_of t.processes w) f) (sym (same_key pid_cmp_exact q who same)) ∙ shown q p is f did at
             | false ↦ λ _ _. shown q p is f did at
           ] refl stays;
       only = λ q f did at.
-          elim (same_pid q who) as (λ b. same_pid q who ≡ b → map.get (cond b one_less (row_of t.rows q)) f ≡ Some did → StaysOpen s closes q f did) [
+          elim (same_pid q who) as (λ b. same_pid q who ≡ b → map.get (cond b one_less (fds_of t.processes q)) f ≡ Some did → StaysOpen s closes q f did) [
             | true ↦ λ same here.
-                elim (f == fd) as (λ b. (f == fd) ≡ b → cond b None (map.get (row_of t.rows who) f) ≡ Some did → StaysOpen s closes q f did) [
+                elim (f == fd) as (λ b. (f == fd) ≡ b → cond b None (map.get (fds_of t.processes who) f) ≡ Some did → StaysOpen s closes q f did) [
                   | true ↦ λ _ e. absurd (never_some None did refl e)
-                  | false ↦ λ other e. open_in closes q f did (ap (λ (w : Pid). map.get (row_of t.rows w) f) (same_key pid_cmp_exact q who same) ∙ e) (both_false (same_pid q who) (f == fd) other)
+                  | false ↦ λ other e. open_in closes q f did (ap (λ (w : Pid). map.get (fds_of t.processes w) f) (same_key pid_cmp_exact q who same) ∙ e) (both_false (same_pid q who) (f == fd) other)
                 ] refl (sym (get-one_less f) ∙ here)
             | false ↦ λ other here. open_in closes q f did here (ap (λ b. b && (f == fd)) other)
-          ] refl (sym (ap (λ (m : Fds). map.get m f) (row_of-insert t.rows who q one_less)) ∙ at);
+          ] refl (sym (ap (λ (m : Fds). map.get m f) (fds_of-insert t.processes who q one_less)) ∙ at);
     }
 
     -- `close` makes the changes of its row
     pub close_changes : (p : Process) → (
-        let t' : OpenFiles = left_with t (map.insert t.rows who (map.remove (row_of t.rows who) fd)) in
+        let t' : OpenFiles = left_with t (map.insert t.processes who (map.remove (fds_of t.processes who) fd)) in
         changed_by s (SetProcess who (record p { fds = map.remove p.fds fd }) ∷ closing s (λ (d : Descriptor). same_pid d.who who && d.fd == fd))
         ≡ record s { procs = map.insert s.procs who (record p { fds = map.remove p.fds fd }); descriptions = t'.descriptions; objects = drained s.descriptions t'.descriptions s.objects })
-    close_changes p = closing_is s t shows closes (map.insert t.rows who one_less) leaves_others (map.insert s.procs who (record p { fds = map.remove p.fds fd }))
+    close_changes p = closing_is s t shows closes (map.insert t.processes who one_less) leaves_others (map.insert s.procs who (record p { fds = map.remove p.fds fd }))
 
   -- all descriptors of a process close
   abbrev is_of : Descriptor → Bool
   is_of d = same_pid d.who who
 
-  leaves_rest : Leaves s is_of (map.remove t.rows who)
+  leaves_rest : Leaves s is_of (map.remove t.processes who)
   leaves_rest = record {
     kept = λ q p is f did at stays.
-        ap (λ (m : Fds). map.get m f) (row_of-remove t.rows who q ∙ ap (λ b. cond b map.empty (row_of t.rows q)) stays) ∙ shown q p is f did at;
+        ap (λ (m : Fds). map.get m f) (fds_of-remove t.processes who q ∙ ap (λ b. cond b map.empty (fds_of t.processes q)) stays) ∙ shown q p is f did at;
     only = λ q f did at.
-        elim (same_pid q who) as (λ b. same_pid q who ≡ b → map.get (cond b map.empty (row_of t.rows q)) f ≡ Some did → StaysOpen s is_of q f did) [
+        elim (same_pid q who) as (λ b. same_pid q who ≡ b → map.get (cond b map.empty (fds_of t.processes q)) f ≡ Some did → StaysOpen s is_of q f did) [
           | true ↦ λ _ here. absurd (never_some (map.get map.empty f) did (get-empty nat_cmp f) here)
           | false ↦ λ other here. open_in is_of q f did here other
-        ] refl (sym (ap (λ (m : Fds). map.get m f) (row_of-remove t.rows who q)) ∙ at);
+        ] refl (sym (ap (λ (m : Fds). map.get m f) (fds_of-remove t.processes who q)) ∙ at);
   }
 
   -- `drop_process` makes the changes of a process that goes
   pub drop_changes : (
-      let t' : OpenFiles = left_with t (map.remove t.rows who) in
+      let t' : OpenFiles = left_with t (map.remove t.processes who) in
       changed_by s (DropProcess who ∷ closing s (λ (d : Descriptor). same_pid d.who who))
       ≡ record s { procs = map.remove s.procs who; descriptions = t'.descriptions; objects = drained s.descriptions t'.descriptions s.objects })
-  drop_changes = closing_is s t shows is_of (map.remove t.rows who) leaves_rest (map.remove s.procs who)
+  drop_changes = closing_is s t shows is_of (map.remove t.processes who) leaves_rest (map.remove s.procs who)
 
   -- and with the changes of the other processes, those of one that ends
   pub ending_changes : (p : Process) (how : Ending) → (
-      let t' : OpenFiles = left_with t (map.remove t.rows who) in
+      let t' : OpenFiles = left_with t (map.remove t.processes who) in
       changed_by s (ending_of s who p how)
-      ≡ changed_by (record s { procs = map.remove s.procs who; descriptions = t'.descriptions; objects = drained s.descriptions t'.descriptions s.objects }) (flat_map (survives who p how) (map.entries s.procs)))
+      ≡ changed_by (record s { procs = map.remove s.procs who; descriptions = t'.descriptions; objects = drained s.descriptions t'.descriptions s.objects }) (flat_map (changes_after_end who p how) (map.entries s.procs)))
   unfolding ending_of
   ending_changes p how =
-      changed_by-append (changed s (DropProcess who)) (closing s is_of) (flat_map (survives who p how) (map.entries s.procs))
-      ∙ ap (λ (r : State). changed_by r (flat_map (survives who p how) (map.entries s.procs))) drop_changes
+      changed_by-append (changed s (DropProcess who)) (closing s is_of) (flat_map (changes_after_end who p how) (map.entries s.procs))
+      ∙ ap (λ (r : State). changed_by r (flat_map (changes_after_end who p how) (map.entries s.procs))) drop_changes

@@ -1,4 +1,4 @@
--- What is left where the own of a process goes, and its descriptors are let go one after another.
+-- What is left where a process goes, and its descriptors are let go one after another.
 use Rattle.std.specs.Prelude.{◌≡◌, ◌&&◌, not, nat_le, ℕ, ◌+◌, ◌<◌, Bool, true, false, Option, Some, None, cond, refl}
 use Rattle.std.specs.Option.{option_map}
 use Rattle.std.specs.Ordering.{eq_by_cmp}
@@ -23,10 +23,10 @@ use Rattle.kern_model.proofs.Selections.{none_pass, none_passes, insert-insert}
 use Rattle.fd_table.specs.declared.shared.Shared.{Shared}
 use Rattle.fd_table.specs.Descriptions.{SharedTable, description_of, descriptions_of, with_one_less}
 use Rattle.fd_table.specs.Files.{AreHeld, OpenFiles, drained, emptied_if, is_held, is_open, is_unused}
-use Rattle.fd_table.specs.Rows.{AllFds, Fds}
+use Rattle.fd_table.specs.Fds.{AllFds, Fds}
 use Rattle.fd_table.proofs.Holding.{held-drop, held-free, open_there}
 use Rattle.fd_table.proofs.Leaving.{get-descriptions, get-drained, left_held, less_same}
-use Rattle.fd_table.proofs.Loops.{from, from-all, from-next, from-none, from-same, get-from, row_set}
+use Rattle.fd_table.proofs.Loops.{from, from-all, from-next, from-none, from-same, get-from, fds_set}
 
 abbrev Descriptions : Type 0
 Descriptions = FinMap did_cmp Description
@@ -34,19 +34,19 @@ Descriptions = FinMap did_cmp Description
 abbrev Objects : Type 0
 Objects = FinMap oid_cmp Object
 
--- the descriptions to which descriptors of these rows refer
+-- the descriptions to which descriptors of these processes refer
 abbrev pub held_by : AllFds → Descriptions → Descriptions
-held_by rows ds = select (where_key (is_held rows) (λ d. d)) ds
+held_by processes ds = select (where_key (is_held processes) (λ d. d)) ds
 
 itself : {X : Type 0} (w : Option X) → option_map (λ d. d) w ≡ w
 itself None = refl
 itself (Some x) = refl
 
-pub get-kept : (rows : AllFds) (ds : Descriptions) (q : Did) → is_held rows q ≡ true → map.get (held_by rows ds) q ≡ map.get ds q
-get-kept rows ds q t = get-select_kept did_cmp_total did_cmp_exact (is_held rows) (λ d. d) ds q t ∙ itself (map.get ds q)
+pub get-kept : (processes : AllFds) (ds : Descriptions) (q : Did) → is_held processes q ≡ true → map.get (held_by processes ds) q ≡ map.get ds q
+get-kept processes ds q t = get-select_kept did_cmp_total did_cmp_exact (is_held processes) (λ d. d) ds q t ∙ itself (map.get ds q)
 
-pub get-gone : (rows : AllFds) (ds : Descriptions) (q : Did) → is_held rows q ≡ false → map.get (held_by rows ds) q ≡ None
-get-gone rows ds q t = get-select_dropped did_cmp_total did_cmp_exact (is_held rows) (λ d. d) ds q t
+pub get-gone : (processes : AllFds) (ds : Descriptions) (q : Did) → is_held processes q ≡ false → map.get (held_by processes ds) q ≡ None
+get-gone processes ds q t = get-select_dropped did_cmp_total did_cmp_exact (is_held processes) (λ d. d) ds q t
 
 -- an object without descriptions gets none where descriptions go
 still_closed : (old new : Descriptions) → ((k : Did) (d : Description) → map.get new k ≡ Some d → map.get old k ≡ Some d) → (q : Oid) → is_open old q ≡ false → is_open new q ≡ false
@@ -88,30 +88,30 @@ drained_same ds objects = same_map oid_cmp_total oid_cmp_exact _ _ (λ q. get-dr
     kept None = refl
     kept (Some o) = ap Some (as_it_is o)
 
--- a own that was set and goes
-remove_set : (rows : AllFds) (who : Pid) (fds : Fds) → map.remove (map.insert rows who fds) who ≡ map.remove rows who
-remove_set rows who fds = same_map pid_cmp_total pid_cmp_exact _ _ (λ q.
-    get-remove pid_cmp_total (map.insert rows who fds) who q ∙ ap (cond (eq_by_cmp pid_cmp q who) None) (get-insert pid_cmp_total rows who fds q)
-    ∙ elim (eq_by_cmp pid_cmp q who) as (λ b. cond b None (cond b (Some fds) (map.get rows q)) ≡ cond b None (map.get rows q)) [ true ↦ refl | false ↦ refl ]
-    ∙ sym (get-remove pid_cmp_total rows who q))
+-- a process that was set and goes
+remove_set : (processes : AllFds) (who : Pid) (fds : Fds) → map.remove (map.insert processes who fds) who ≡ map.remove processes who
+remove_set processes who fds = same_map pid_cmp_total pid_cmp_exact _ _ (λ q.
+    get-remove pid_cmp_total (map.insert processes who fds) who q ∙ ap (cond (eq_by_cmp pid_cmp q who) None) (get-insert pid_cmp_total processes who fds q)
+    ∙ elim (eq_by_cmp pid_cmp q who) as (λ b. cond b None (cond b (Some fds) (map.get processes q)) ≡ cond b None (map.get processes q)) [ true ↦ refl | false ↦ refl ]
+    ∙ sym (get-remove pid_cmp_total processes who q))
 
--- ---- the descriptors below n of a own that went are let go
+-- ---- the descriptors below n of a process that went are let go
 pub record AreLetGo (t0 : OpenFiles) (who : Pid) (own : Fds) (n : ℕ) (shared : SharedTable) (objects0 objects : FinMap oid_cmp Object) : Type 0 where
-  pub held : AreHeld (map.insert t0.rows who (from n own)) shared t0.numbers
+  pub held : AreHeld (map.insert t0.processes who (from n own)) shared t0.numbers
   pub left : (q : Did) (d : Description) → map.get (descriptions_of shared) q ≡ Some d → map.get t0.descriptions q ≡ Some d
   pub emptied : objects ≡ drained t0.descriptions (descriptions_of shared) objects0
 
-pub none_let_go : (t0 : OpenFiles) (who : Pid) (own : Fds) (shared : SharedTable) (objects : FinMap oid_cmp Object) → map.get t0.rows who ≡ Some own
-    → AreHeld t0.rows shared t0.numbers → descriptions_of shared ≡ t0.descriptions → AreLetGo t0 who own 0 shared objects objects
+pub none_let_go : (t0 : OpenFiles) (who : Pid) (own : Fds) (shared : SharedTable) (objects : FinMap oid_cmp Object) → map.get t0.processes who ≡ Some own
+    → AreHeld t0.processes shared t0.numbers → descriptions_of shared ≡ t0.descriptions → AreLetGo t0 who own 0 shared objects objects
 none_let_go t0 who own shared objects there are same = record {
-  held = subst (λ (m : AllFds). AreHeld m shared t0.numbers) (sym (ap (map.insert t0.rows who) (from-all own) ∙ insert-same pid_cmp_total pid_cmp_exact t0.rows who own there)) are;
+  held = subst (λ (m : AllFds). AreHeld m shared t0.numbers) (sym (ap (map.insert t0.processes who) (from-all own) ∙ insert-same pid_cmp_total pid_cmp_exact t0.processes who own there)) are;
   left = λ q d e. ap (λ (ds : Descriptions). map.get ds q) (sym same) ∙ e;
   emptied = sym (ap (λ (ds : Descriptions). drained t0.descriptions ds objects) same ∙ drained_same t0.descriptions objects);
 }
 
 module _ (t0 : OpenFiles) (who : Pid) (own : Fds) (n : ℕ) (shared : SharedTable) (objects0 objects : FinMap oid_cmp Object) (are : AreLetGo t0 who own n shared objects0 objects) where
-  there : map.get (map.insert t0.rows who (from n own)) who ≡ Some (from n own)
-  there = get-insert_same pid_cmp_total t0.rows who (from n own)
+  there : map.get (map.insert t0.processes who (from n own)) who ≡ Some (from n own)
+  there = get-insert_same pid_cmp_total t0.processes who (from n own)
 
   next_from : (w : Option Did) → map.get own n ≡ w → map.get (from n own) n ≡ w
   next_from w at = let yes : nat_le n n ≡ true = grind (arith, nat_tests) in get-from n own n ∙ ap (λ b. cond b (map.get own n) None) yes ∙ at
@@ -119,16 +119,16 @@ module _ (t0 : OpenFiles) (who : Pid) (own : Fds) (n : ℕ) (shared : SharedTabl
   -- the next descriptor refers to a description that is there
   pub next_there : (did : Did) → map.get own n ≡ Some did → IsThere shared did
   next_there did at =
-      open_there (map.insert t0.rows who (from n own)) shared t0.numbers are.held who n did (ap (λ (fds : Fds). map.get fds n) (row_set t0.rows who (from n own)) ∙ next_from (Some did) at)
+      open_there (map.insert t0.processes who (from n own)) shared t0.numbers are.held who n did (ap (λ (fds : Fds). map.get fds n) (fds_set t0.processes who (from n own)) ∙ next_from (Some did) at)
 
   -- and is let go
   pub let_go_next : (did : Did) → map.get own n ≡ Some did → (s : Shared) → map.get shared did ≡ Some s → (new : SharedTable) → new ≡ with_one_less shared did s
       → (objects' : FinMap oid_cmp Object) → objects' ≡ drained (descriptions_of shared) (descriptions_of new) objects → AreLetGo t0 who own (n + 1) new objects0 objects'
   let_go_next did at s is new less objects' drains = record {
-    held = subst (λ (m : SharedTable). AreHeld (map.insert t0.rows who (from (n + 1) own)) m t0.numbers) (sym less)
+    held = subst (λ (m : SharedTable). AreHeld (map.insert t0.processes who (from (n + 1) own)) m t0.numbers) (sym less)
         (subst (λ (m : AllFds). AreHeld m (with_one_less shared did s) t0.numbers)
-        (insert-insert pid_cmp_total pid_cmp_exact t0.rows who (from n own) (map.remove (from n own) n) ∙ ap (map.insert t0.rows who) (from-next own n))
-        (held-free (map.insert t0.rows who (from n own)) shared t0.numbers are.held who (from n own) there n did s is (next_from (Some did) at)));
+        (insert-insert pid_cmp_total pid_cmp_exact t0.processes who (from n own) (map.remove (from n own) n) ∙ ap (map.insert t0.processes who) (from-next own n))
+        (held-free (map.insert t0.processes who (from n own)) shared t0.numbers are.held who (from n own) there n did s is (next_from (Some did) at)));
     left = λ q d e. are.left q d (fewer q d e);
     emptied = drains ∙ ap (drained (descriptions_of shared) (descriptions_of new)) are.emptied
         ∙ drained_twice t0.descriptions (descriptions_of shared) (descriptions_of new) objects0 (still_closed t0.descriptions (descriptions_of shared) are.left)
@@ -146,20 +146,20 @@ module _ (t0 : OpenFiles) (who : Pid) (own : Fds) (n : ℕ) (shared : SharedTabl
   let_go_skip none new same objects' still =
       subst (λ (m : SharedTable). AreLetGo t0 who own (n + 1) m objects0 objects') (sym same)
       (subst (λ (os : FinMap oid_cmp Object). AreLetGo t0 who own (n + 1) shared objects0 os) (sym still) record {
-        held = subst (λ (fds : Fds). AreHeld (map.insert t0.rows who fds) shared t0.numbers) (from-same own n (next_from None none)) are.held;
+        held = subst (λ (fds : Fds). AreHeld (map.insert t0.processes who fds) shared t0.numbers) (from-same own n (next_from None none)) are.held;
         left = are.left;
         emptied = are.emptied;
       })
 
 -- all of them
 module _ (t0 : OpenFiles) (who : Pid) (own : Fds) (n : ℕ) (end : n ≡ 32) (shared : SharedTable) (objects0 objects : FinMap oid_cmp Object) (are : AreLetGo t0 who own n shared objects0 objects) where
-  pub held_after : AreHeld (map.remove t0.rows who) shared t0.numbers
+  pub held_after : AreHeld (map.remove t0.processes who) shared t0.numbers
   held_after =
-      let there : map.get (map.insert t0.rows who (from n own)) who ≡ Some (from n own) = get-insert_same pid_cmp_total t0.rows who (from n own) in
+      let there : map.get (map.insert t0.processes who (from n own)) who ≡ Some (from n own) = get-insert_same pid_cmp_total t0.processes who (from n own) in
       let below : (fd : ℕ) (did : Did) → map.get (from 32 own) fd ≡ Some did → fd < MAX_DESCRIPTORS =
       subst (λ k. (fd : ℕ) (did : Did) → map.get (from k own) fd ≡ Some did → fd < MAX_DESCRIPTORS) end (are.held.below who (from n own) there) in
-      subst (λ (m : AllFds). AreHeld m shared t0.numbers) (remove_set t0.rows who (from n own))
-      (held-drop (map.insert t0.rows who (from n own)) shared t0.numbers are.held who (from n own) there (ap (λ k. from k own) end ∙ from-none own below))
+      subst (λ (m : AllFds). AreHeld m shared t0.numbers) (remove_set t0.processes who (from n own))
+      (held-drop (map.insert t0.processes who (from n own)) shared t0.numbers are.held who (from n own) there (ap (λ k. from k own) end ∙ from-none own below))
 
-  pub left_after : descriptions_of shared ≡ held_by (map.remove t0.rows who) t0.descriptions
-  left_after = left_held (map.remove t0.rows who) t0.descriptions shared t0.numbers held_after (λ q s e. are.left q (description_of s) (get-descriptions shared q ∙ ap (option_map description_of) e))
+  pub left_after : descriptions_of shared ≡ held_by (map.remove t0.processes who) t0.descriptions
+  left_after = left_held (map.remove t0.processes who) t0.descriptions shared t0.numbers held_after (λ q s e. are.left q (description_of s) (get-descriptions shared q ∙ ap (option_map description_of) e))

@@ -24,19 +24,19 @@ use Rattle.kern_model.specs.Valid.{IsThere}
 use Rattle.kern_model.proofs.KeyLaws.{did_cmp_total, did_cmp_exact, pid_cmp_total, pid_cmp_exact}
 use Rattle.kern_model.proofs.MapLemmas.{each-entries, each-insert, each-remove, get-insert_same, get_or-absent, get_or-found, get_or-same, head_T, never_some, same_key, tail_T}
 use Rattle.kern_model.proofs.TableLemmas.{each_set_at}
-use Rattle.fd_table.specs.declared.rows.TheConstants.{MAX_ROWS}
+use Rattle.fd_table.specs.declared.process_fds.TheConstants.{MAX_PROCESSES}
 use Rattle.fd_table.specs.declared.shared.Shared.{Shared}
 use Rattle.fd_table.specs.Descriptions.{SharedTable, holders_kept, with_one_less}
 use Rattle.fd_table.specs.Files.{AreHeld}
-use Rattle.fd_table.specs.Rows.{AllFds, Fds, fd_count, holders, holders_in, row_of}
+use Rattle.fd_table.specs.Fds.{AllFds, Fds, fd_count, holders, holders_in, fds_of}
 use Rattle.num_table.proofs.Sums.{sum-empty, sum-insert, sum-remove, sum-replace}
 
 -- ---- counts
 abbrev on_it : Did → ℕ → Did → ℕ
 on_it did fd d = cond (same_did d did) 1 0
 
-abbrev in_row : Did → Pid → Fds → ℕ
-in_row did who fds = holders_in fds did
+abbrev in_fds : Did → Pid → Fds → ℕ
+in_fds did who fds = holders_in fds did
 
 pub in-empty : (did : Did) → holders_in map.empty did ≡ 0
 unfolding count_entries
@@ -53,36 +53,36 @@ module _ (fds : Fds) (fd : ℕ) (d did : Did) where
 
 pub holders-empty : (did : Did) → holders map.empty did ≡ 0
 unfolding holders
-holders-empty did = sum-empty (in_row did) pid_cmp
+holders-empty did = sum-empty (in_fds did) pid_cmp
 
-module _ (rows : AllFds) (who : Pid) (did : Did) where
-  pub holders-insert : (fds : Fds) → map.get rows who ≡ None → holders (map.insert rows who fds) did ≡ holders_in fds did + holders rows did
+module _ (processes : AllFds) (who : Pid) (did : Did) where
+  pub holders-insert : (fds : Fds) → map.get processes who ≡ None → holders (map.insert processes who fds) did ≡ holders_in fds did + holders processes did
   unfolding holders
-  holders-insert fds none = sum-insert (in_row did) pid_cmp_total rows who fds none
+  holders-insert fds none = sum-insert (in_fds did) pid_cmp_total processes who fds none
 
-  pub holders-remove : (fds : Fds) → map.get rows who ≡ Some fds → holders rows did ≡ holders_in fds did + holders (map.remove rows who) did
+  pub holders-remove : (fds : Fds) → map.get processes who ≡ Some fds → holders processes did ≡ holders_in fds did + holders (map.remove processes who) did
   unfolding holders
-  holders-remove fds there = sum-remove (in_row did) pid_cmp_total pid_cmp_exact rows who fds there
+  holders-remove fds there = sum-remove (in_fds did) pid_cmp_total pid_cmp_exact processes who fds there
 
-  pub holders-replace : (old new : Fds) → map.get rows who ≡ Some old → holders_in old did + holders (map.insert rows who new) did ≡ holders_in new did + holders rows did
+  pub holders-replace : (old new : Fds) → map.get processes who ≡ Some old → holders_in old did + holders (map.insert processes who new) did ≡ holders_in new did + holders processes did
   unfolding holders
-  holders-replace old new there = sum-replace (in_row did) pid_cmp_total pid_cmp_exact rows who old new there
+  holders-replace old new there = sum-replace (in_fds did) pid_cmp_total pid_cmp_exact processes who old new there
 
--- the row of a process that has one
-pub row_is : (rows : AllFds) (who : Pid) → IsThere rows who → map.get rows who ≡ Some (row_of rows who)
-row_is rows who there = there.is ∙ ap Some (sym (get_or-found rows who map.empty there.value there.is))
+-- the descriptors of a process that is there
+pub fds_are : (processes : AllFds) (who : Pid) → IsThere processes who → map.get processes who ≡ Some (fds_of processes who)
+fds_are processes who there = there.is ∙ ap Some (sym (get_or-found processes who map.empty there.value there.is))
 
--- a process with a descriptor has a row
-pub has_row : (rows : AllFds) (who : Pid) (fd : ℕ) (did : Did) → map.get (row_of rows who) fd ≡ Some did → IsThere rows who
-has_row rows who fd did is =
-    elim (map.get rows who) as (λ w. map.get rows who ≡ w → IsThere rows who) [
-      | None ↦ λ e. absurd (never_some (map.get (row_of rows who) fd) did (ap (λ (fds : Fds). map.get fds fd) (get_or-absent rows who map.empty e) ∙ get-empty {X = Did} nat_cmp fd) is)
+-- a process with a descriptor is there
+pub has_fds : (processes : AllFds) (who : Pid) (fd : ℕ) (did : Did) → map.get (fds_of processes who) fd ≡ Some did → IsThere processes who
+has_fds processes who fd did is =
+    elim (map.get processes who) as (λ w. map.get processes who ≡ w → IsThere processes who) [
+      | None ↦ λ e. absurd (never_some (map.get (fds_of processes who) fd) did (ap (λ (fds : Fds). map.get fds fd) (get_or-absent processes who map.empty e) ∙ get-empty {X = Did} nat_cmp fd) is)
       | Some fds ↦ λ e. record { value = fds; is = e }
     ] refl
 
-pub there_if : (rows : AllFds) (who : Pid) → is_some (map.get rows who) ≡ true → IsThere rows who
-there_if rows who has =
-    elim (map.get rows who) as (λ w. map.get rows who ≡ w → is_some w ≡ true → IsThere rows who) [
+pub there_if : (processes : AllFds) (who : Pid) → is_some (map.get processes who) ≡ true → IsThere processes who
+there_if processes who has =
+    elim (map.get processes who) as (λ w. map.get processes who ≡ w → is_some w ≡ true → IsThere processes who) [
       | None ↦ λ e (no : false ≡ true). absurd (cc)
       | Some fds ↦ λ e _. record { value = fds; is = e }
     ] refl has
@@ -92,24 +92,24 @@ pub none_if : {X : Type 0} (w : Option X) → is_some w ≡ false → w ≡ None
 none_if None e = refl
 none_if (Some x) e = absurd (true≢false e)
 
--- a row without descriptors is as none
-module _ (rows : AllFds) (who : Pid) (absent : map.get rows who ≡ None) where
-  pub row_with : (q : Pid) → row_of (map.insert rows who map.empty) q ≡ row_of rows q
-  row_with q =
-      elim (eq_by_cmp pid_cmp q who) as (λ b. eq_by_cmp pid_cmp q who ≡ b → row_of (map.insert rows who map.empty) q ≡ row_of rows q) [
+-- a process without descriptors is as one that is not there
+module _ (processes : AllFds) (who : Pid) (absent : map.get processes who ≡ None) where
+  pub fds_with : (q : Pid) → fds_of (map.insert processes who map.empty) q ≡ fds_of processes q
+  fds_with q =
+      elim (eq_by_cmp pid_cmp q who) as (λ b. eq_by_cmp pid_cmp q who ≡ b → fds_of (map.insert processes who map.empty) q ≡ fds_of processes q) [
         | true ↦ λ t.
             let same = same_key pid_cmp_exact q who t in
-            ap (row_of (map.insert rows who map.empty)) same
-            ∙ get_or-found (map.insert rows who map.empty) who map.empty map.empty (get-insert_same pid_cmp_total rows who map.empty)
-            ∙ sym (ap (row_of rows) same ∙ get_or-absent rows who map.empty absent)
-        | false ↦ λ t. get_or-same (map.insert rows who map.empty) rows q map.empty (get-insert pid_cmp_total rows who map.empty q ∙ ap (λ b. cond b (Some map.empty) (map.get rows q)) t)
+            ap (fds_of (map.insert processes who map.empty)) same
+            ∙ get_or-found (map.insert processes who map.empty) who map.empty map.empty (get-insert_same pid_cmp_total processes who map.empty)
+            ∙ sym (ap (fds_of processes) same ∙ get_or-absent processes who map.empty absent)
+        | false ↦ λ t. get_or-same (map.insert processes who map.empty) processes q map.empty (get-insert pid_cmp_total processes who map.empty q ∙ ap (λ b. cond b (Some map.empty) (map.get processes q)) t)
       ] refl
 
-  pub row_as_before : {X E : Type 0} (r : Result X E) (new : AllFds) → OnOk r (new ≡ map.insert rows who map.empty) → OnErr r (new ≡ rows) → (q : Pid) → row_of new q ≡ row_of rows q
-  row_as_before (Ok x) new is same q = ap (λ (m : AllFds). row_of m q) is ∙ row_with q
-  row_as_before (Err e) new is same q = ap (λ (m : AllFds). row_of m q) same
+  pub fds_as_before : {X E : Type 0} (r : Result X E) (new : AllFds) → OnOk r (new ≡ map.insert processes who map.empty) → OnErr r (new ≡ processes) → (q : Pid) → fds_of new q ≡ fds_of processes q
+  fds_as_before (Ok x) new is same q = ap (λ (m : AllFds). fds_of m q) is ∙ fds_with q
+  fds_as_before (Err e) new is same q = ap (λ (m : AllFds). fds_of m q) same
 
--- ---- a row has few descriptors
+-- ---- a process has few descriptors
 more_than : (k e : ℕ) → T (is_lt (nat_cmp k e)) → k < e
 more_than k e h = elim (cases_lt k e) [
   | inl less ↦ less
@@ -144,13 +144,13 @@ few_sorted a (e ∷ es) h few all =
     let rest : length es + (e.0 + 1) ≤ 32 = few_sorted (e.0 + 1) es (tail_T _ _ h) (omega (arith, high)) later in
     omega (arith, rest, low)
 
-pub row_few : (fds : Fds) → ((fd : ℕ) (did : Did) → map.get fds fd ≡ Some did → fd < MAX_DESCRIPTORS) → fd_count fds ≤ 32
-row_few fds below = let few = few_sorted 0 (map.entries fds) (entries_sorted fds) (omega arith) (λ q y f. (omega arith, below q y (get-entries fds q ∙ f))) in omega (arith, few)
+pub fds_few : (fds : Fds) → ((fd : ℕ) (did : Did) → map.get fds fd ≡ Some did → fd < MAX_DESCRIPTORS) → fd_count fds ≤ 32
+fds_few fds below = let few = few_sorted 0 (map.entries fds) (entries_sorted fds) (omega arith) (λ q y f. (omega arith, below q y (get-entries fds q ∙ f))) in omega (arith, few)
 
 in_few : (fds : Fds) (did : Did) → ((fd : ℕ) (did : Did) → map.get fds fd ≡ Some did → fd < MAX_DESCRIPTORS) → holders_in fds did ≤ 32
 unfolding count_entries
 in_few fds did below =
-    let few = row_few fds below in
+    let few = fds_few fds below in
     let part = count_by-le-length (λ (e : ℕ × Did). same_did e.1 did) (map.entries fds) in
     omega (arith, few, part)
 
@@ -187,20 +187,20 @@ less_kept s h = elim (nat_le s.holders 1) as (λ b. nat_le s.holders 1 ≡ b →
   | false ↦ λ t. omega (arith, h)
 ] refl
 
-module _ (rows : AllFds) (shared : SharedTable) (numbers : FinMap label_cmp ℕ) (are : AreHeld rows shared numbers) where
+module _ (processes : AllFds) (shared : SharedTable) (numbers : FinMap label_cmp ℕ) (are : AreHeld processes shared numbers) where
   -- a description has few descriptors
-  pub holders_few : (did : Did) → holders rows did ≤ map.len rows * 32
+  pub holders_few : (did : Did) → holders processes did ≤ map.len processes * 32
   unfolding holders
   holders_few did =
-      let size = len-entries rows in
-      let few = sum_by-le (λ (row : Pid × Fds). holders_in row.1 did) 32 (map.entries rows) (All-from_recursion (λ (row : Pid × Fds). holders_in row.1 did ≤ 32) (map.entries rows) (each-entries pid_cmp_total pid_cmp_exact (λ (who : Pid) (fds : Fds). holders_in fds did ≤ 32) rows (λ who fds is. in_few fds did (are.below who fds is)))) in
+      let size = len-entries processes in
+      let few = sum_by-le (λ (entry : Pid × Fds). holders_in entry.1 did) 32 (map.entries processes) (All-from_recursion (λ (entry : Pid × Fds). holders_in entry.1 did ≤ 32) (map.entries processes) (each-entries pid_cmp_total pid_cmp_exact (λ (who : Pid) (fds : Fds). holders_in fds did ≤ 32) processes (λ who fds is. in_few fds did (are.below who fds is)))) in
       omega (arith, size, few)
 
   pub few_more : (did : Did) (s : Shared) → map.get shared did ≡ Some s → s.holders < 18446744073709551615
   few_more did s is =
-      let all : s.holders ≡ holders rows did = ap holders_kept (sym is) ∙ are.counted did in
+      let all : s.holders ≡ holders processes did = ap holders_kept (sym is) ∙ are.counted did in
       let few = holders_few did in
-      let rooms : map.len rows ≤ 576460752303423487 = are.few in
+      let rooms : map.len processes ≤ 576460752303423487 = are.few in
       omega (arith, all, few, rooms)
 
   -- the next number is of no description
@@ -214,66 +214,66 @@ module _ (rows : AllFds) (shared : SharedTable) (numbers : FinMap label_cmp ℕ)
         absurd (omega (arith, low, same, above))
   ] refl
 
-  -- a row that is added
-  pub held-add : (who : Pid) → map.get rows who ≡ None → map.len rows < MAX_ROWS → AreHeld (map.insert rows who map.empty) shared numbers
+  -- a process that is added
+  pub held-add : (who : Pid) → map.get processes who ≡ None → map.len processes < MAX_PROCESSES → AreHeld (map.insert processes who map.empty) shared numbers
   held-add who none room = record {
-    counted = λ q. let all = are.counted q in let new = holders-insert rows who q map.empty none in let nothing = in-empty q in omega (arith, all, new, nothing);
+    counted = λ q. let all = are.counted q in let new = holders-insert processes who q map.empty none in let nothing = in-empty q in omega (arith, all, new, nothing);
     held = are.held;
-    below = each-insert pid_cmp_total pid_cmp_exact (λ (q : Pid) (fds : Fds). (fd : ℕ) (did : Did) → map.get fds fd ≡ Some did → fd < MAX_DESCRIPTORS) rows are.below who map.empty (λ fd did e. absurd (never_some (map.get map.empty fd) did (get-empty nat_cmp fd) e));
-    few = let size = len-insert pid_cmp_total rows who map.empty ∙ ap (λ (w : Option Fds). cond (is_some w) (map.len rows) (map.len rows + 1)) none in omega (arith, size, room);
+    below = each-insert pid_cmp_total pid_cmp_exact (λ (q : Pid) (fds : Fds). (fd : ℕ) (did : Did) → map.get fds fd ≡ Some did → fd < MAX_DESCRIPTORS) processes are.below who map.empty (λ fd did e. absurd (never_some (map.get map.empty fd) did (get-empty nat_cmp fd) e));
+    few = let size = len-insert pid_cmp_total processes who map.empty ∙ ap (λ (w : Option Fds). cond (is_some w) (map.len processes) (map.len processes + 1)) none in omega (arith, size, room);
     drawn_already = are.drawn_already;
   }
 
-  module _ (who : Pid) (fds : Fds) (there : map.get rows who ≡ Some fds) where
-    same_size : (new : Fds) → map.len (map.insert rows who new) ≡ map.len rows
-    same_size new = len-insert pid_cmp_total rows who new ∙ ap (λ (w : Option Fds). cond (is_some w) (map.len rows) (map.len rows + 1)) there
+  module _ (who : Pid) (fds : Fds) (there : map.get processes who ≡ Some fds) where
+    same_size : (new : Fds) → map.len (map.insert processes who new) ≡ map.len processes
+    same_size new = len-insert pid_cmp_total processes who new ∙ ap (λ (w : Option Fds). cond (is_some w) (map.len processes) (map.len processes + 1)) there
 
-    row_below : (new : Fds) → ((fd : ℕ) (did : Did) → map.get new fd ≡ Some did → fd < MAX_DESCRIPTORS) → (q : Pid) (fs : Fds) → map.get (map.insert rows who new) q ≡ Some fs → (fd : ℕ) (did : Did) → map.get fs fd ≡ Some did → fd < MAX_DESCRIPTORS
-    row_below new h = each-insert pid_cmp_total pid_cmp_exact (λ (q : Pid) (fs : Fds). (fd : ℕ) (did : Did) → map.get fs fd ≡ Some did → fd < MAX_DESCRIPTORS) rows are.below who new h
+    fds_below : (new : Fds) → ((fd : ℕ) (did : Did) → map.get new fd ≡ Some did → fd < MAX_DESCRIPTORS) → (q : Pid) (fs : Fds) → map.get (map.insert processes who new) q ≡ Some fs → (fd : ℕ) (did : Did) → map.get fs fd ≡ Some did → fd < MAX_DESCRIPTORS
+    fds_below new h = each-insert pid_cmp_total pid_cmp_exact (λ (q : Pid) (fs : Fds). (fd : ℕ) (did : Did) → map.get fs fd ≡ Some did → fd < MAX_DESCRIPTORS) processes are.below who new h
 
-    -- a row without descriptors that goes
-    pub held-drop : fds ≡ map.empty → AreHeld (map.remove rows who) shared numbers
+    -- a process without descriptors that goes
+    pub held-drop : fds ≡ map.empty → AreHeld (map.remove processes who) shared numbers
     held-drop empty = record {
-      counted = λ q. let all = are.counted q in let old = holders-remove rows who q fds there in let nothing = ap (λ (fs : Fds). holders_in fs q) empty ∙ in-empty q in omega (arith, all, old, nothing);
+      counted = λ q. let all = are.counted q in let old = holders-remove processes who q fds there in let nothing = ap (λ (fs : Fds). holders_in fs q) empty ∙ in-empty q in omega (arith, all, old, nothing);
       held = are.held;
-      below = each-remove pid_cmp_total pid_cmp_exact (λ (q : Pid) (fs : Fds). (fd : ℕ) (did : Did) → map.get fs fd ≡ Some did → fd < MAX_DESCRIPTORS) rows are.below who;
-      few = let size = len-remove pid_cmp_total rows who ∙ ap (λ (w : Option Fds). cond (is_some w) (map.len rows - 1) (map.len rows)) there in let room = are.few in omega (arith, size, room);
+      below = each-remove pid_cmp_total pid_cmp_exact (λ (q : Pid) (fs : Fds). (fd : ℕ) (did : Did) → map.get fs fd ≡ Some did → fd < MAX_DESCRIPTORS) processes are.below who;
+      few = let size = len-remove pid_cmp_total processes who ∙ ap (λ (w : Option Fds). cond (is_some w) (map.len processes - 1) (map.len processes)) there in let room = are.few in omega (arith, size, room);
       drawn_already = are.drawn_already;
     }
 
     module _ (fd : ℕ) (did : Did) where
       -- a descriptor that is opened
-      counted_more : map.get fds fd ≡ None → (q : Did) → holders (map.insert rows who (map.insert fds fd did)) q ≡ cond (same_did did q) 1 0 + holders rows q
+      counted_more : map.get fds fd ≡ None → (q : Did) → holders (map.insert processes who (map.insert fds fd did)) q ≡ cond (same_did did q) 1 0 + holders processes q
       counted_more none q =
-          let rest = holders-replace rows who q fds (map.insert fds fd did) there in
-          let row = in-insert fds fd did q none in
-          omega (arith, rest, row)
+          let rest = holders-replace processes who q fds (map.insert fds fd did) there in
+          let own = in-insert fds fd did q none in
+          omega (arith, rest, own)
 
-      row_more : fd < MAX_DESCRIPTORS → (k : ℕ) (d : Did) → map.get (map.insert fds fd did) k ≡ Some d → k < MAX_DESCRIPTORS
-      row_more low = each-insert nat_cmp_total nat_cmp-IsAntisymmetric (λ (k : ℕ) (d : Did). k < MAX_DESCRIPTORS) fds (are.below who fds there) fd did low
+      fds_more : fd < MAX_DESCRIPTORS → (k : ℕ) (d : Did) → map.get (map.insert fds fd did) k ≡ Some d → k < MAX_DESCRIPTORS
+      fds_more low = each-insert nat_cmp_total nat_cmp-IsAntisymmetric (λ (k : ℕ) (d : Did). k < MAX_DESCRIPTORS) fds (are.below who fds there) fd did low
 
       -- on a description that is there
-      pub held-set : (s : Shared) → map.get shared did ≡ Some s → map.get fds fd ≡ None → fd < MAX_DESCRIPTORS → AreHeld (map.insert rows who (map.insert fds fd did)) (map.insert shared did (record s { holders = s.holders + 1 })) numbers
+      pub held-set : (s : Shared) → map.get shared did ≡ Some s → map.get fds fd ≡ None → fd < MAX_DESCRIPTORS → AreHeld (map.insert processes who (map.insert fds fd did)) (map.insert shared did (record s { holders = s.holders + 1 })) numbers
       held-set s is none low = record {
         counted = λ q. counted_at shared (map.insert shared did (record s { holders = s.holders + 1 })) did (Some (record s { holders = s.holders + 1 })) (get-insert did_cmp_total shared did (record s { holders = s.holders + 1 })) q (same_did did q) refl
-            ∙ one_more (same_did did q) (holders rows q) (s.holders + 1) (holders_kept (map.get shared q)) (holders (map.insert rows who (map.insert fds fd did)) q) (counted_more none q)
-            (λ t. ap (λ n. n + 1) (ap holders_kept (sym is) ∙ are.counted did ∙ ap (holders rows) (same_key did_cmp_exact did q t))) (are.counted q);
+            ∙ one_more (same_did did q) (holders processes q) (s.holders + 1) (holders_kept (map.get shared q)) (holders (map.insert processes who (map.insert fds fd did)) q) (counted_more none q)
+            (λ t. ap (λ n. n + 1) (ap holders_kept (sym is) ∙ are.counted did ∙ ap (holders processes) (same_key did_cmp_exact did q t))) (are.counted q);
         held = each-insert did_cmp_total did_cmp_exact (λ (q : Did) (x : Shared). 1 ≤ x.holders) shared are.held did (record s { holders = s.holders + 1 }) (omega arith);
-        below = row_below (map.insert fds fd did) (row_more low);
+        below = fds_below (map.insert fds fd did) (fds_more low);
         few = let size = same_size (map.insert fds fd did) in let room = are.few in omega (arith, size, room);
         drawn_already = each-insert did_cmp_total did_cmp_exact (λ (q : Did) (x : Shared). q.n ≤ drawn numbers q.label) shared are.drawn_already did (record s { holders = s.holders + 1 }) (are.drawn_already did s is);
       }
 
       -- on a new one
-      pub held-new : (label : Label) → did ≡ record { label = label; n = drawn numbers label + 1 } → (s : Shared) → s.holders ≡ 1 → map.get fds fd ≡ None → fd < MAX_DESCRIPTORS → AreHeld (map.insert rows who (map.insert fds fd did)) (map.insert shared did s) (map.insert numbers label did.n)
+      pub held-new : (label : Label) → did ≡ record { label = label; n = drawn numbers label + 1 } → (s : Shared) → s.holders ≡ 1 → map.get fds fd ≡ None → fd < MAX_DESCRIPTORS → AreHeld (map.insert processes who (map.insert fds fd did)) (map.insert shared did s) (map.insert numbers label did.n)
       held-new label next s one none low = record {
         counted = λ q. counted_at shared (map.insert shared did s) did (Some s) (get-insert did_cmp_total shared did s) q (same_did did q) refl
-            ∙ one_more (same_did did q) (holders rows q) s.holders (holders_kept (map.get shared q)) (holders (map.insert rows who (map.insert fds fd did)) q) (counted_more none q)
+            ∙ one_more (same_did did q) (holders processes q) s.holders (holders_kept (map.get shared q)) (holders (map.insert processes who (map.insert fds fd did)) q) (counted_more none q)
             (λ t.
-            let nothing : 0 ≡ holders rows q = ap holders_kept (sym (fresh did label next)) ∙ are.counted did ∙ ap (holders rows) (same_key did_cmp_exact did q t) in
+            let nothing : 0 ≡ holders processes q = ap holders_kept (sym (fresh did label next)) ∙ are.counted did ∙ ap (holders processes) (same_key did_cmp_exact did q t) in
             omega (arith, nothing, one)) (are.counted q);
         held = each-insert did_cmp_total did_cmp_exact (λ (q : Did) (x : Shared). 1 ≤ x.holders) shared are.held did s (omega (arith, one));
-        below = row_below (map.insert fds fd did) (row_more low);
+        below = fds_below (map.insert fds fd did) (fds_more low);
         few = let size = same_size (map.insert fds fd did) in let room = are.few in omega (arith, size, room);
         drawn_already = each-insert did_cmp_total did_cmp_exact (λ (q : Did) (x : Shared). q.n ≤ drawn (map.insert numbers label did.n) q.label) shared
             (λ q x e. let low = are.drawn_already q x e in let rise = rises label (ap (λ (d : Did). d.n) next) q.label in omega (arith, low, rise)) did s
@@ -287,14 +287,14 @@ module _ (rows : AllFds) (shared : SharedTable) (numbers : FinMap label_cmp ℕ)
           now_drawn label = get_or-found (map.insert numbers label did.n) label 0 did.n (get-insert_same label_cmp_total numbers label did.n)
 
       -- a descriptor that is closed
-      pub held-free : (s : Shared) → map.get shared did ≡ Some s → map.get fds fd ≡ Some did → AreHeld (map.insert rows who (map.remove fds fd)) (with_one_less shared did s) numbers
+      pub held-free : (s : Shared) → map.get shared did ≡ Some s → map.get fds fd ≡ Some did → AreHeld (map.insert processes who (map.remove fds fd)) (with_one_less shared did s) numbers
       held-free s is at = record {
         counted = λ q. counted_at shared (with_one_less shared did s) did (less s) (get-less shared did s) q (same_did did q) refl
-            ∙ one_less (same_did did q) (holders rows q) (holders_kept (less s)) (holders_kept (map.get shared q)) (holders (map.insert rows who (map.remove fds fd)) q)
-            (let rest = holders-replace rows who q fds (map.remove fds fd) there in let row = in-remove fds fd did q at in omega (arith, rest, row))
-            (λ t. less_kept s (are.held did s is) ∙ ap holders_kept (sym is) ∙ are.counted did ∙ ap (holders rows) (same_key did_cmp_exact did q t)) (are.counted q);
+            ∙ one_less (same_did did q) (holders processes q) (holders_kept (less s)) (holders_kept (map.get shared q)) (holders (map.insert processes who (map.remove fds fd)) q)
+            (let rest = holders-replace processes who q fds (map.remove fds fd) there in let own = in-remove fds fd did q at in omega (arith, rest, own))
+            (λ t. less_kept s (are.held did s is) ∙ ap holders_kept (sym is) ∙ are.counted did ∙ ap (holders processes) (same_key did_cmp_exact did q t)) (are.counted q);
         held = still_held (nat_le s.holders 1) refl;
-        below = row_below (map.remove fds fd) (each-remove nat_cmp_total nat_cmp-IsAntisymmetric (λ (k : ℕ) (d : Did). k < MAX_DESCRIPTORS) fds (are.below who fds there) fd);
+        below = fds_below (map.remove fds fd) (each-remove nat_cmp_total nat_cmp-IsAntisymmetric (λ (k : ℕ) (d : Did). k < MAX_DESCRIPTORS) fds (are.below who fds there) fd);
         few = let size = same_size (map.remove fds fd) in let room = are.few in omega (arith, size, room);
         drawn_already = still_drawn (nat_le s.holders 1);
       }
@@ -310,7 +310,7 @@ module _ (rows : AllFds) (shared : SharedTable) (numbers : FinMap label_cmp ℕ)
           still_drawn false = each-insert did_cmp_total did_cmp_exact (λ (q : Did) (x : Shared). q.n ≤ drawn numbers q.label) shared are.drawn_already did (record s { holders = s.holders - 1 }) (are.drawn_already did s is)
 
   -- a description whose offset is set
-  pub held-moved : (did : Did) (s new : Shared) → map.get shared did ≡ Some s → new.holders ≡ s.holders → AreHeld rows (map.insert shared did new) numbers
+  pub held-moved : (did : Did) (s new : Shared) → map.get shared did ≡ Some s → new.holders ≡ s.holders → AreHeld processes (map.insert shared did new) numbers
   held-moved did s new is same = record {
     counted = λ q. counted_at shared (map.insert shared did new) did (Some new) (get-insert did_cmp_total shared did new) q (same_did did q) refl
         ∙ kept_same q (same_did did q) refl ∙ are.counted q;
@@ -325,19 +325,19 @@ module _ (rows : AllFds) (shared : SharedTable) (numbers : FinMap label_cmp ℕ)
       kept_same q false t = refl
 
   -- the descriptors of a process refer to descriptions that are there
-  held_there : (who : Pid) (fds : Fds) → map.get rows who ≡ Some fds → (fd : ℕ) (did : Did) → map.get fds fd ≡ Some did → (w : Option Shared) → map.get shared did ≡ w → IsThere shared did
+  held_there : (who : Pid) (fds : Fds) → map.get processes who ≡ Some fds → (fd : ℕ) (did : Did) → map.get fds fd ≡ Some did → (w : Option Shared) → map.get shared did ≡ w → IsThere shared did
   held_there who fds there fd did at None none =
-      let nothing : 0 ≡ holders rows did = ap holders_kept (sym none) ∙ are.counted did in
-      let rest = holders-remove rows who did fds there in
-      let row = in-remove fds fd did did at in
+      let nothing : 0 ≡ holders processes did = ap holders_kept (sym none) ∙ are.counted did in
+      let rest = holders-remove processes who did fds there in
+      let own = in-remove fds fd did did at in
       let one : ◌≡◌ {A = ℕ} (cond (same_did did did) 1 0) 1 = ap (λ r. cond {A = ℕ} (is_eq r) 1 0) (tied_itself did_cmp_total did) in
-      absurd (omega (arith, nothing, rest, row, one))
+      absurd (omega (arith, nothing, rest, own, one))
   held_there who fds there fd did at (Some s) is = record { value = s; is = is }
 
-  pub open_there : (who : Pid) (fd : ℕ) (did : Did) → map.get (row_of rows who) fd ≡ Some did → IsThere shared did
-  open_there who fd did at = elim (map.get rows who) as (λ w. map.get rows who ≡ w → IsThere shared did) [
-    | None ↦ λ none. absurd (never_some (map.get (row_of rows who) fd) did (ap (λ (fds : Fds). map.get fds fd) (get_or-absent rows who map.empty none) ∙ get-empty nat_cmp fd) at)
-    | Some fds ↦ λ there. held_there who fds there fd did (ap (λ (fds : Fds). map.get fds fd) (sym (get_or-found rows who map.empty fds there)) ∙ at) (map.get shared did) refl
+  pub open_there : (who : Pid) (fd : ℕ) (did : Did) → map.get (fds_of processes who) fd ≡ Some did → IsThere shared did
+  open_there who fd did at = elim (map.get processes who) as (λ w. map.get processes who ≡ w → IsThere shared did) [
+    | None ↦ λ none. absurd (never_some (map.get (fds_of processes who) fd) did (ap (λ (fds : Fds). map.get fds fd) (get_or-absent processes who map.empty none) ∙ get-empty nat_cmp fd) at)
+    | Some fds ↦ λ there. held_there who fds there fd did (ap (λ (fds : Fds). map.get fds fd) (sym (get_or-found processes who map.empty fds there)) ∙ at) (map.get shared did) refl
   ] refl
 
 -- nothing is kept

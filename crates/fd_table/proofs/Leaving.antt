@@ -24,7 +24,7 @@ use Rattle.fd_table.specs.declared.shared.Shared.{Shared}
 use Rattle.fd_table.specs.Descriptions.{SharedTable, description_of, descriptions_of, has_user, holders_kept, uses_of, with_one_less}
 use Rattle.fd_table.specs.Files.{AreHeld, drained, emptied_if, is_held, is_open, is_unused}
 use Rattle.fd_table.specs.Fifo.{fifo_emptied, without_bytes}
-use Rattle.fd_table.specs.Rows.{AllFds, Fds, holders, holders_in}
+use Rattle.fd_table.specs.Fds.{AllFds, Fds, holders, holders_in}
 use Rattle.fd_table.proofs.Holding.{get-less, less}
 use Rattle.num_table.proofs.Sums.{any-sum}
 use Rattle.fd_table.proofs.UseLemmas.{on_object, once, some-number, uses-remove, uses-replace, uses_some}
@@ -43,10 +43,10 @@ unfolding descriptions_of
 descriptions-insert shared did s = select-insert_kept did_cmp_total did_cmp_exact (λ d. true) description_of shared did s refl
 
 -- ---- whether a description is held
-pub held-count : (rows : AllFds) (did : Did) → is_held rows did ≡ not (holders rows did == 0)
+pub held-count : (processes : AllFds) (did : Did) → is_held processes did ≡ not (holders processes did == 0)
 unfolding is_held holders any_entry count_entries
-held-count rows did = any-sum (λ (row : Pid × Fds). list_any (λ (e : ℕ × Did). same_did e.1 did) (map.entries row.1)) (λ (row : Pid × Fds). holders_in row.1 did)
-    (λ row. any-sum (λ (e : ℕ × Did). same_did e.1 did) (λ (e : ℕ × Did). cond (same_did e.1 did) 1 0) (λ e. once (same_did e.1 did)) (map.entries row.1)) (map.entries rows)
+held-count processes did = any-sum (λ (entry : Pid × Fds). list_any (λ (e : ℕ × Did). same_did e.1 did) (map.entries entry.1)) (λ (entry : Pid × Fds). holders_in entry.1 did)
+    (λ entry. any-sum (λ (e : ℕ × Did). same_did e.1 did) (λ (e : ℕ × Did). cond (same_did e.1 did) 1 0) (λ e. once (same_did e.1 did)) (map.entries entry.1)) (map.entries processes)
 
 -- ---- what is there with its count and without
 pub there_without : (shared : SharedTable) (did : Did) → IsThere shared did → IsThere (descriptions_of shared) did
@@ -86,19 +86,19 @@ pub open-count : (shared : SharedTable) (id : Oid) → is_open (descriptions_of 
 open-count shared id = open_alike shared id ∙ some-number (on_object id) shared
 
 -- ---- the descriptions that are left
-pub left_held : (rows : AllFds) (old : FinMap did_cmp Description) (new : SharedTable) (numbers : FinMap label_cmp ℕ) → AreHeld rows new numbers
-    → ((q : Did) (s : Shared) → map.get new q ≡ Some s → map.get old q ≡ Some (description_of s)) → descriptions_of new ≡ select (where_key (is_held rows) (λ d. d)) old
-left_held rows old new numbers are same = same_map did_cmp_total did_cmp_exact _ _ (λ q.
+pub left_held : (processes : AllFds) (old : FinMap did_cmp Description) (new : SharedTable) (numbers : FinMap label_cmp ℕ) → AreHeld processes new numbers
+    → ((q : Did) (s : Shared) → map.get new q ≡ Some s → map.get old q ≡ Some (description_of s)) → descriptions_of new ≡ select (where_key (is_held processes) (λ d. d)) old
+left_held processes old new numbers are same = same_map did_cmp_total did_cmp_exact _ _ (λ q.
     get-descriptions new q
-    ∙ elim (map.get new q) as (λ w. map.get new q ≡ w → option_map description_of w ≡ map.get (select (where_key (is_held rows) (λ d. d)) old) q) [
+    ∙ elim (map.get new q) as (λ w. map.get new q ≡ w → option_map description_of w ≡ map.get (select (where_key (is_held processes) (λ d. d)) old) q) [
       | None ↦ λ none.
-          let nothing : 0 ≡ holders rows q = ap holders_kept (sym none) ∙ are.counted q in
-          sym (get-select_dropped did_cmp_total did_cmp_exact (is_held rows) (λ d. d) old q (held-count rows q ∙ ap (λ n. not (n == 0)) (sym nothing)))
+          let nothing : 0 ≡ holders processes q = ap holders_kept (sym none) ∙ are.counted q in
+          sym (get-select_dropped did_cmp_total did_cmp_exact (is_held processes) (λ d. d) old q (held-count processes q ∙ ap (λ n. not (n == 0)) (sym nothing)))
       | Some s ↦ λ is.
-          let all : s.holders ≡ holders rows q = ap holders_kept (sym is) ∙ are.counted q in
+          let all : s.holders ≡ holders processes q = ap holders_kept (sym is) ∙ are.counted q in
           let one = are.held q s is in
-          let more : (holders rows q == 0) ≡ false = grind (arith, nat_tests) in
-          sym (get-select_kept did_cmp_total did_cmp_exact (is_held rows) (λ d. d) old q (held-count rows q ∙ ap not more) ∙ ap (option_map (λ d. d)) (same q s is))
+          let more : (holders processes q == 0) ≡ false = grind (arith, nat_tests) in
+          sym (get-select_kept did_cmp_total did_cmp_exact (is_held processes) (λ d. d) old q (held-count processes q ∙ ap not more) ∙ ap (option_map (λ d. d)) (same q s is))
     ] refl)
 
 -- what one descriptor less leaves of each description

@@ -6,6 +6,7 @@ pub mod Holding
 pub mod Leaving
 pub mod Looking
 pub mod Loops
+pub mod Openings
 pub mod Slots
 pub mod TakenLemmas
 pub mod UseLemmas

@@ -1,4 +1,4 @@
--- What is looked up in a table of rows, and how many there are after one is set.
+-- What is looked up in a table of processes, and how many there are after one is set.
 use Rattle.std.specs.Prelude.{◌≡◌, ℕ, ◌+◌, ◌-◌, ◌≤◌, Bool, true, List, Some, None, cond, is_some, refl, zero, suc}
 use Rattle.std.specs.declared.cmp.Ordering.{Ordering}
 use Rattle.std.specs.Cmp.{IsTotalOrder}
@@ -13,17 +13,21 @@ use Rattle.std.proofs.lemmas.Bool.{true≢false}
 use Rattle.kern_model.specs.declared.numbers.Pid.{Pid}
 use Rattle.kern_model.proofs.MapLemmas.{get_or-found, get_or-absent}
 use Rattle.num_table.proofs.Sums.{no_entries}
-use Rattle.fd_table.specs.Rows.{AllFds, Fds, fd_count, row_of}
+use Rattle.fd_table.specs.Fds.{AllFds, Fds, fd_count, fds_of}
 
-module _ (rows : AllFds) (who : Pid) where
-  -- a row that is there, and one that is not
-  pub row_there : (fds : Fds) → Some fds ≡ map.get rows who → row_of rows who ≡ fds
-  row_there fds is = get_or-found rows who map.empty fds (sym is)
+module _ (processes : AllFds) (who : Pid) where
+  -- a process that is there, and one that is not
+  pub fds_there : (fds : Fds) → Some fds ≡ map.get processes who → fds_of processes who ≡ fds
+  fds_there fds is = get_or-found processes who map.empty fds (sym is)
 
-  pub row_absent : None ≡ map.get rows who → row_of rows who ≡ map.empty
-  row_absent is = get_or-absent rows who map.empty (sym is)
+  pub fds_absent : None ≡ map.get processes who → fds_of processes who ≡ map.empty
+  fds_absent is = get_or-absent processes who map.empty (sym is)
 
--- ---- how many rows there are
+  -- the descriptors of a process that is there are changed
+  pub fds_changed : (fds : Fds) → Some fds ≡ map.get processes who → (f : Fds → Fds) (new : Fds) → new ≡ f fds → map.insert processes who new ≡ map.insert processes who (f (fds_of processes who))
+  fds_changed fds is f new set = ap (map.insert processes who) (set ∙ ap f (sym (fds_there fds is)))
+
+-- ---- how many processes there are
 module _ {K X : Type 0} {R : K → K → Ordering} (o : IsTotalOrder R) (m : FinMap R X) (k : K) where
   pub len_some : is_some (map.get m k) ≡ true → 1 ≤ map.len m
   len_some there = at (map.len m) refl

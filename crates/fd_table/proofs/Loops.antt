@@ -12,7 +12,7 @@ use Rattle.kern_model.specs.declared.numbers.Did.{Did}
 use Rattle.kern_model.proofs.MapLemmas.{get-insert_same, get_or-found, same_key, remove-absent}
 use Rattle.kern_model.specs.declared.numbers.Pid.{Pid}
 use Rattle.kern_model.proofs.KeyLaws.{pid_cmp_total}
-use Rattle.fd_table.specs.Rows.{AllFds, Fds, row_of}
+use Rattle.fd_table.specs.Fds.{AllFds, Fds, fds_of}
 
 -- the descriptors below n
 abbrev pub below : ℕ → Fds → Fds
@@ -118,7 +118,7 @@ from-none fds few = same_fds _ _ (λ q. nothing q (map.get (from 32 fds) q) refl
         let no : nat_le 32 q ≡ false = grind (arith, nat_tests) in
         get-from 32 fds q ∙ ap (λ b. cond b (map.get fds q) None) no
 
--- ---- rows
-module _ (rows : AllFds) (who : Pid) (fds : Fds) where
-  pub row_set : row_of (map.insert rows who fds) who ≡ fds
-  row_set = get_or-found (map.insert rows who fds) who map.empty fds (get-insert_same pid_cmp_total rows who fds)
+-- ---- the descriptors of a process that are set
+module _ (processes : AllFds) (who : Pid) (fds : Fds) where
+  pub fds_set : fds_of (map.insert processes who fds) who ≡ fds
+  fds_set = get_or-found (map.insert processes who fds) who map.empty fds (get-insert_same pid_cmp_total processes who fds)

@@ -1,4 +1,4 @@
--- The slots of a row, seen as its descriptors.
+-- The slots of a process, seen as its descriptors.
 use Rattle.std.specs.Prelude.{◌≡◌, ℕ, zero, suc, ◌+◌, ◌<◌, ◌==◌, Bool, true, false, List, [], ◌∷◌, Option, None, Some, cond, count_by, drop, get_or, is_none, is_some, length, map, not, replicate, refl}
 use Rattle.std.specs.Option.{option_flatten}
 use Rattle.std.specs.List.{slice_get, position_or_len}
@@ -17,7 +17,7 @@ use Rattle.kern_model.specs.declared.numbers.Did.{Did}
 use Rattle.kern_model.specs.Descriptors.{first_gap, lowest_free}
 use Rattle.kern_model.proofs.TableLemmas.{both_T}
 use Rattle.lab_lattice.specs.Label.{Label, bottom}
-use Rattle.fd_table.specs.Rows.{fd_count, fds_in, in_slots, slots_of}
+use Rattle.fd_table.specs.Fds.{Fds, fd_count, fds_in, in_slots, slots_of}
 
 less : (a b : ℕ) → a < b → T (is_lt (nat_cmp a b))
 less a b h = subst (λ r. T (is_lt r)) (nat_cmp_is a b Less h) tt
@@ -68,7 +68,7 @@ counted n [] = refl
 counted n (None ∷ slots) = let rest = counted (n + 1) slots in let step = sum_by-cons (λ (s : Option Did). cond (is_some s) 1 0) None slots in omega (arith, rest, step)
 counted n (Some did ∷ slots) = let rest = counted (n + 1) slots in let step = sum_by-cons (λ (s : Option Did). cond (is_some s) 1 0) (Some did) slots in omega (arith, rest, step)
 
-pub count-fds : (slots : List (Option Did)) → fd_count (fds_in slots) ≡ count_by is_some slots
+count-fds : (slots : List (Option Did)) → fd_count (fds_in slots) ≡ count_by is_some slots
 count-fds slots = ap length (entries-fds slots) ∙ counted 0 slots
 
 -- ---- the lowest that is free
@@ -99,7 +99,7 @@ first_is_free (Some did ∷ slots) = let one : 1 + position_or_len is_none slots
 abbrev first_did : List Label → List ℕ → Did
 first_did labels counts = record { label = get_or labels 0 bottom; n = get_or counts 0 0 }
 
-pub count-taken : (taken : List Bool) (labels : List Label) (counts : List ℕ) → count_by is_some (slots_of taken labels counts) ≡ count_by (λ b. b) taken
+count-taken : (taken : List Bool) (labels : List Label) (counts : List ℕ) → count_by is_some (slots_of taken labels counts) ≡ count_by (λ b. b) taken
 count-taken [] labels counts = refl
 count-taken (true ∷ taken) labels counts =
     let rest = count-taken taken (drop 1 labels) (drop 1 counts) in
@@ -109,6 +109,10 @@ count-taken (false ∷ taken) labels counts =
     let rest = count-taken taken (drop 1 labels) (drop 1 counts) in
     let bit = sum_by-cons (λ (b : Bool). cond b 1 0) false taken in
     let step = sum_by-cons (λ (t : Option Did). cond (is_some t) 1 0) None (slots_of taken (drop 1 labels) (drop 1 counts)) in omega (arith, rest, bit, step)
+
+-- as many slots are taken as there are descriptors
+pub count-seen : (taken : List Bool) (labels : List Label) (counts : List ℕ) (fds : Fds) → fds_in (slots_of taken labels counts) ≡ fds → count_by (λ b. b) taken ≡ fd_count fds
+count-seen taken labels counts fds view = sym (count-taken taken labels counts) ∙ sym (count-fds (slots_of taken labels counts)) ∙ ap fd_count view
 
 pub lowest-taken : (taken : List Bool) (labels : List Label) (counts : List ℕ) → position_or_len is_none (slots_of taken labels counts) ≡ position_or_len not taken
 lowest-taken [] labels counts = refl

@@ -11,7 +11,7 @@ use Rattle.kern_model.specs.declared.numbers.Oid.{Oid}
 use Rattle.kern_model.specs.Keys.{did_cmp, oid_cmp, same_oid}
 use Rattle.kern_model.specs.Maps.{any_entry, count_entries, get_or}
 use Rattle.kern_model.proofs.KeyLaws.{did_cmp_total, did_cmp_exact, oid_cmp_total}
-use Rattle.kern_model.proofs.MapLemmas.{get-insert_same}
+use Rattle.kern_model.proofs.MapLemmas.{get-insert_same, some_same}
 use Rattle.fd_table.specs.declared.shared.How.{How}
 use Rattle.fd_table.specs.declared.shared.Shared.{Shared}
 use Rattle.fd_table.specs.declared.uses.UseCount.{UseCount}
@@ -171,3 +171,13 @@ module _ (shared : SharedTable) (uses : FinMap oid_cmp UseCount) (counted : AreC
           let some = uses_some (map.insert shared did new) did new s.object (get-insert_same did_cmp_total shared did new) (sym same) in
           let more : (uses_of (map.insert shared did new) s.object == 0) ≡ false = grind (arith, nat_tests) in
           ap (λ b. cond b (Some s.object) None) (sym more)
+
+-- ---- a description that is changed, with the same object and open as before
+module _ (shared mid : SharedTable) (did : Did) (x : Shared) (found : Some x ≡ map.get shared did) (f : Shared → Shared) (set : mid ≡ map.insert shared did (f x)) where
+  pub counted_changed : (uses : FinMap oid_cmp UseCount) → AreCounted shared uses → (f x).object ≡ x.object → (f x).how ≡ x.how → AreCounted mid uses
+  counted_changed uses counted object how = subst (λ (m : SharedTable). AreCounted m uses) (sym set) (counted-replace shared uses counted did x (sym found) (f x) object how)
+
+  pub shared_changed : (t : SharedTable) → shared ≡ t → (s : Shared) → map.get t did ≡ Some s → mid ≡ map.insert t did (f s)
+  shared_changed t view s is =
+      let same : x ≡ s = some_same x s (found ∙ ap (λ (m : SharedTable). map.get m did) view ∙ is) in
+      set ∙ ap (λ (y : Shared). map.insert shared did (f y)) same ∙ ap (λ (m : SharedTable). map.insert m did (f s)) view

@@ -16,17 +16,17 @@ use Rattle.kern_model.specs.Keys.{did_cmp, oid_cmp, same_did, same_oid}
 use Rattle.kern_model.specs.Kinds.{is_fifo}
 use Rattle.kern_model.specs.Maps.{any_entry, select, where_key}
 use Rattle.kern_model.specs.State.{Description, drawn}
-use Rattle.fd_table.specs.declared.rows.TheConstants.{MAX_ROWS}
+use Rattle.fd_table.specs.declared.process_fds.TheConstants.{MAX_PROCESSES}
 use Rattle.fd_table.specs.declared.shared.How.{How}
 use Rattle.fd_table.specs.declared.shared.Shared.{Shared}
 use Rattle.fd_table.specs.declared.table.FdError.{FdError}
 use Rattle.fd_table.specs.declared.table.FdError.TheVariants as error
 use Rattle.fd_table.specs.Descriptions.{SharedTable, holders_kept}
-use Rattle.fd_table.specs.Rows.{AllFds, Fds, fd_count, holders, row_of}
+use Rattle.fd_table.specs.Fds.{AllFds, Fds, fd_count, holders, fds_of}
 
 -- the descriptors of each process, the open descriptions, and the last number drawn of each label
 pub record OpenFiles : Type 0 where
-  pub rows : AllFds
+  pub processes : AllFds
   pub descriptions : FinMap did_cmp Description
   pub numbers : FinMap label_cmp ℕ
 
@@ -35,17 +35,21 @@ abbrev pub open_files_code : Coded Pid → Coded Did → Coded Description → C
 open_files_code pid did description label =
     code_by ((AllFds × FinMap did_cmp Description) × FinMap label_cmp ℕ)
     (coded× (coded× (map.code pid (map.code {K = ℕ} {X = Did} {R = nat_cmp} coded_ℕ did)) (map.code did description)) (map.code label coded_ℕ))
-    (λ t. ((t.rows, t.descriptions), t.numbers))
-    (λ p. record { rows = p.0.0; descriptions = p.0.1; numbers = p.1 })
+    (λ t. ((t.processes, t.descriptions), t.numbers))
+    (λ p. record { processes = p.0.0; descriptions = p.0.1; numbers = p.1 })
     (λ _. refl)
 
--- no row, no description, and no number drawn
+-- no process, no description, and no number drawn
 abbrev pub no_files : OpenFiles
-no_files = record { rows = map.empty; descriptions = map.empty; numbers = map.empty }
+no_files = record { processes = map.empty; descriptions = map.empty; numbers = map.empty }
+
+-- the descriptors of a process; none where it is not there
+abbrev pub fds_at : OpenFiles → Pid → Fds
+fds_at t who = fds_of t.processes who
 
 -- the description to which a descriptor of a process refers
 abbrev pub did_at : OpenFiles → Pid → ℕ → Option Did
-did_at t who fd = map.get (row_of t.rows who) fd
+did_at t who fd = map.get (fds_at t who) fd
 
 abbrev pub description_at : OpenFiles → Pid → ℕ → Option Description
 description_at t who fd = option_and_then (λ did. map.get t.descriptions did) (did_at t who fd)
@@ -54,9 +58,21 @@ description_at t who fd = option_and_then (λ did. map.get t.descriptions did) (
 abbrev pub opened_at : OpenFiles → Pid → ℕ → Option Opened
 opened_at t who fd = option_and_then (λ did. option_map (λ d. record { did = did; description = d }) (map.get t.descriptions did)) (did_at t who fd)
 
+-- this holds of the description to which a descriptor of a process refers, and of its number, if it is open
+abbrev pub ForDescription : OpenFiles → Pid → ℕ → (Did → Description → Type 0) → Type 0
+ForDescription t who fd P = (did : Did) (d : Description) → did_at t who fd ≡ Some did → map.get t.descriptions did ≡ Some d → P did d
+
 -- whether some description of an object passes a test
 abbrev pub any_on : OpenFiles → (Description → Bool) → Oid → Bool
 any_on t test id = any_entry (λ (did : Did) (d : Description). same_oid d.object id && test d) t.descriptions
+
+-- whether an object has a description for reading
+abbrev pub has_reader : OpenFiles → Oid → Bool
+has_reader t id = any_on t (λ d. d.reads) id
+
+-- whether it has one for writing
+abbrev pub has_writer : OpenFiles → Oid → Bool
+has_writer t id = any_on t (λ d. d.writes) id
 
 -- what a description is open for
 abbrev pub how_of : Description → How
@@ -67,12 +83,16 @@ abbrev pub opened_for : Oid → How → Description
 opened_for id how = record { object = id; reads = how.reads; writes = how.writes; appends = how.appends; offset = 0 }
 
 -- other descriptors of a process
-abbrev pub with_row : OpenFiles → Pid → Fds → OpenFiles
-with_row t who fds = record t { rows = map.insert t.rows who fds }
+abbrev pub with_fds_of : OpenFiles → Pid → Fds → OpenFiles
+with_fds_of t who fds = record t { processes = map.insert t.processes who fds }
 
 -- one descriptor more, the lowest that is free
 abbrev pub with_lowest : Fds → Did → Fds
 with_lowest fds did = map.insert fds (lowest_free fds) did
+
+-- a descriptor more of a process, the lowest that is free, that refers to a description
+abbrev pub with_dup : OpenFiles → Pid → Did → OpenFiles
+with_dup t who did = with_fds_of t who (with_lowest (fds_at t who) did)
 
 -- the number of the next description at a label
 abbrev pub next_in : OpenFiles → Label → Did
@@ -81,7 +101,7 @@ next_in t l = record { label = l; n = drawn t.numbers l + 1 }
 -- a new description under the next number of a label, at the lowest free descriptor of a process
 abbrev pub with_opened : OpenFiles → Pid → Label → Description → OpenFiles
 with_opened t who l d = record {
-  rows = map.insert t.rows who (with_lowest (row_of t.rows who) (next_in t l));
+  processes = map.insert t.processes who (with_lowest (fds_at t who) (next_in t l));
   descriptions = map.insert t.descriptions (next_in t l) d;
   numbers = map.insert t.numbers l (drawn t.numbers l + 1);
 }
@@ -95,7 +115,7 @@ with_offset t did d offset = record t { descriptions = map.insert t.descriptions
 -- why n descriptions are not opened
 abbrev pub open_refusal : OpenFiles → Pid → Label → ℕ → Option FdError
 open_refusal t who l n =
-    cond (nat_le (fd_count (row_of t.rows who) + n) MAX_DESCRIPTORS) (cond (nat_le (drawn t.numbers l + n) MAX_DESCRIPTIONS) None (Some error.Full)) (Some error.TooMany)
+    cond (nat_le (fd_count (fds_at t who) + n) MAX_DESCRIPTORS) (cond (nat_le (drawn t.numbers l + n) MAX_DESCRIPTIONS) None (Some error.Full)) (Some error.TooMany)
 
 abbrev pub is_no_memory : FdError → Bool
 is_no_memory (error.NoMemory e) = true
@@ -109,11 +129,11 @@ is_past to size = int_lt to (pos 0) || int_lt (pos size) to
 
 -- whether some descriptor refers to a description
 unfoldable pub is_held : AllFds → Did → Bool
-is_held rows did = any_entry (λ (who : Pid) (fds : Fds). any_entry (λ (fd : ℕ) (d : Did). same_did d did) fds) rows
+is_held processes did = any_entry (λ (who : Pid) (fds : Fds). any_entry (λ (fd : ℕ) (d : Did). same_did d did) fds) processes
 
--- with these rows, and the descriptions to which their descriptors refer
+-- with these processes, and the descriptions to which their descriptors refer
 abbrev pub left_with : OpenFiles → AllFds → OpenFiles
-left_with t rows = record t { rows = rows; descriptions = select (where_key (is_held rows) (λ d. d)) t.descriptions }
+left_with t processes = record t { processes = processes; descriptions = select (where_key (is_held processes) (λ d. d)) t.descriptions }
 
 -- whether an object has a description
 abbrev pub is_open : FinMap did_cmp Description → Oid → Bool
@@ -133,9 +153,9 @@ drained old new objects = select (λ (id : Oid) (o : Object). Some (emptied_if (
 -- ---- what is kept
 
 -- what is counted of each description is how many descriptors refer to it, and its number was drawn
-pub record AreHeld (rows : AllFds) (shared : SharedTable) (numbers : FinMap label_cmp ℕ) : Type 0 where
-  pub counted : (did : Did) → holders_kept (map.get shared did) ≡ holders rows did
+pub record AreHeld (processes : AllFds) (shared : SharedTable) (numbers : FinMap label_cmp ℕ) : Type 0 where
+  pub counted : (did : Did) → holders_kept (map.get shared did) ≡ holders processes did
   pub held : (did : Did) (s : Shared) → map.get shared did ≡ Some s → 1 ≤ s.holders
-  pub below : (who : Pid) (fds : Fds) → map.get rows who ≡ Some fds → (fd : ℕ) (did : Did) → map.get fds fd ≡ Some did → fd < MAX_DESCRIPTORS
-  pub few : map.len rows ≤ MAX_ROWS
+  pub below : (who : Pid) (fds : Fds) → map.get processes who ≡ Some fds → (fd : ℕ) (did : Did) → map.get fds fd ≡ Some did → fd < MAX_DESCRIPTORS
+  pub few : map.len processes ≤ MAX_PROCESSES
   pub drawn_already : (did : Did) (s : Shared) → map.get shared did ≡ Some s → did.n ≤ drawn numbers did.label

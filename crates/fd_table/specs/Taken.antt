@@ -1,4 +1,4 @@
--- Which slots of a row are taken.
+-- Which slots of a process are taken.
 use Rattle.std.specs.Prelude.{ℕ, zero, suc, ◌/◌, ◌%◌, ◌==◌, Bool, List, [], ◌∷◌}
 
 -- the n lowest bits of a number, from the lowest on

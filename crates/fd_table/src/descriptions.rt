@@ -24,7 +24,7 @@ impl Model for Descriptions {
     ghost use Rattle.std.specs.Coded.{codes};
     ghost use Rattle.lab_lattice.specs.Label.{label_code};
     ghost use Rattle.kern_model.specs.Keys.{did_cmp};
-    ghost use Rattle.num_table.specs.Keys.{by_did};
+    ghost use Rattle.kern_model.specs.ByNumber.{by_did};
     ghost use Rattle.fd_table.specs.declared.shared.Shared.{Shared};
     ghost use Rattle.fd_table.specs.Descriptions.{AreCounted};
 

@@ -2,11 +2,11 @@
 #![tactic(auto)]
 
 mod descriptions;
+mod fd_slots;
 mod fifo;
 mod opened;
 mod pipes;
-mod row;
-mod rows;
+mod process_fds;
 mod shared;
 mod table;
 mod taken;

@@ -1,11 +1,8 @@
 // Bytes into pipes and FIFOs, and out of them.
-ghost use Rattle.std.specs.Prelude.{◌≡◌, ◌<◌, ◌≤◌, ◌+◌, ◌++◌, ◌==◌, ◌&&◌, true, false, Err, IfErr, IfOk, Ok, OnErr, OnOk, Some, drop, length, min, take};
-ghost use Rattle.std.specs.FinMap as map;
-ghost use Rattle.fs_nodes.specs.Nodes.{IsStream};
-ghost use Rattle.kern_model.specs.declared.limits.TheConstants.{MAX_PIPE_BYTES};
-ghost use Rattle.kern_model.specs.declared.objects.Object.{Object as Value};
-ghost use Rattle.fd_table.specs.Files.{any_on};
-ghost use Rattle.fd_table.specs.Pipes.{is_no_memory};
+ghost use Rattle.std.specs.Prelude.{◌≡◌, ◌++◌, true, false, Err, IfErr, IfOk, Ok, OnErr, OnOk, drop, length, take};
+ghost use Rattle.fs_nodes.specs.Nodes.{ForBytes, ForObject, IsStream, fitting};
+ghost use Rattle.fd_table.specs.Files.{has_reader};
+ghost use Rattle.fd_table.specs.Pipes.{IfFull, IfRoom, is_awaited, is_no_memory};
 
 use crate::table::FdTable;
 use fs_nodes::Buffers;
@@ -36,7 +33,7 @@ impl From<NoMemory> for PipeError {
 // How many bytes are in a pipe or FIFO.
 fn size<B: Buffers>(buffers: &B, id: &Oid) -> usize
     requires { IsStream (B.objects buffers.now) id.now }
-    ensures { (o : Value) → map.get (B.objects buffers.now) id.now ≡ Some o → result ≡ length o.bytes }
+    ensures { ForObject (B.objects buffers.now) id.now (λ o. result ≡ length o.bytes) }
 {
     let Some(object) = buffers.object(id) else {
         unreachable!();
@@ -57,10 +54,10 @@ impl FdTable {
         bytes: &[u8],
     ) -> Result<(), PipeError>
         requires { IsStream (B.objects buffers.old) id.now }
-        ensures broken { any_on self.now (λ d. d.reads) id.now ≡ false → result ≡ Err PipeError.Broken }
-        ensures again { (o : Value) → map.get (B.objects buffers.old) id.now ≡ Some o → any_on self.now (λ d. d.reads) id.now ≡ true → MAX_PIPE_BYTES < length o.bytes + length bytes.now → result ≡ Err PipeError.Again }
-        ensures memory { (o : Value) → map.get (B.objects buffers.old) id.now ≡ Some o → any_on self.now (λ d. d.reads) id.now ≡ true → length o.bytes + length bytes.now ≤ MAX_PIPE_BYTES → IfErr result (λ e. is_no_memory e ≡ true) }
-        ensures put { (o : Value) → map.get (B.objects buffers.old) id.now ≡ Some o → OnOk result (B.objects buffers.new ≡ map.insert (B.objects buffers.old) id.now (record o { bytes = o.bytes ++ bytes.now })) }
+        ensures broken { has_reader self.now id.now ≡ false → result ≡ Err PipeError.Broken }
+        ensures again { ForObject (B.objects buffers.old) id.now (λ o. IfFull self.now id.now o.bytes bytes.now (result ≡ Err PipeError.Again)) }
+        ensures memory { ForObject (B.objects buffers.old) id.now (λ o. IfRoom self.now id.now o.bytes bytes.now (IfErr result (λ e. is_no_memory e ≡ true))) }
+        ensures put { ForBytes (B.objects buffers.old) id.now (λ old with_bytes. OnOk result (B.objects buffers.new ≡ with_bytes (old ++ bytes.now))) }
         ensures err { OnErr result (B.objects buffers.new ≡ B.objects buffers.old) }
         ensures rest { B.rest_same buffers.old buffers.new }
     {
@@ -87,10 +84,10 @@ impl FdTable {
         buf: &mut [u8],
     ) -> Result<usize, PipeError>
         requires { IsStream (B.objects buffers.old) id.now }
-        ensures again { (o : Value) → map.get (B.objects buffers.old) id.now ≡ Some o → (length o.bytes == 0 && any_on self.now (λ d. d.writes) id.now) ≡ true → result ≡ Err PipeError.Again }
-        ensures count { (o : Value) → map.get (B.objects buffers.old) id.now ≡ Some o → (length o.bytes == 0 && any_on self.now (λ d. d.writes) id.now) ≡ false → result ≡ Ok (min (length o.bytes) (length buf.old)) }
-        ensures taken { (o : Value) → map.get (B.objects buffers.old) id.now ≡ Some o → IfOk result (λ n. buf.new ≡ take n o.bytes ++ drop n buf.old) }
-        ensures left { (o : Value) → map.get (B.objects buffers.old) id.now ≡ Some o → IfOk result (λ n. B.objects buffers.new ≡ map.insert (B.objects buffers.old) id.now (record o { bytes = drop n o.bytes })) }
+        ensures again { ForObject (B.objects buffers.old) id.now (λ o. is_awaited self.now id.now o.bytes ≡ true → result ≡ Err PipeError.Again) }
+        ensures count { ForObject (B.objects buffers.old) id.now (λ o. is_awaited self.now id.now o.bytes ≡ false → result ≡ Ok (fitting o.bytes buf.old)) }
+        ensures taken { ForObject (B.objects buffers.old) id.now (λ o. IfOk result (λ n. buf.new ≡ take n o.bytes ++ drop n buf.old)) }
+        ensures left { ForBytes (B.objects buffers.old) id.now (λ old with_bytes. IfOk result (λ n. B.objects buffers.new ≡ with_bytes (drop n old))) }
         ensures err { OnErr result (B.objects buffers.new ≡ B.objects buffers.old) }
         ensures untouched { OnErr result (buf.new ≡ buf.old) }
         ensures rest { B.rest_same buffers.old buffers.new }

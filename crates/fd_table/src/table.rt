@@ -8,15 +8,15 @@ ghost use Rattle.kern_model.specs.Valid.{IsThere};
 ghost use Rattle.kern_model.specs.declared.limits.TheConstants.{MAX_DESCRIPTIONS, MAX_DESCRIPTORS};
 ghost use Rattle.kern_model.specs.declared.numbers.Did.{Did as Number};
 ghost use Rattle.kern_model.specs.declared.numbers.Pid.{Pid as Process};
-ghost use Rattle.fd_table.specs.Files.{any_on, description_at, did_at, drained, how_of, is_no_memory, is_past, left_with, next_in, no_files, open_refusal, opened_at, opened_for, with_lowest, with_offset, with_opened, with_row};
+ghost use Rattle.fd_table.specs.Files.{ForDescription, description_at, did_at, drained, fds_at, has_reader, has_writer, how_of, is_no_memory, is_past, left_with, next_in, no_files, open_refusal, opened_at, opened_for, with_dup, with_fds_of, with_offset, with_opened};
 ghost use Rattle.fd_table.specs.Descriptions.{description_of};
-ghost use Rattle.fd_table.specs.Rows.{fd_count, row_of};
+ghost use Rattle.fd_table.specs.Fds.{HasFree, fd_count, fds_of};
 
 use crate::descriptions::Descriptions;
+use crate::fd_slots::FdSlots;
 use crate::fifo::let_go;
 use crate::opened::Opened;
-use crate::row::Row;
-use crate::rows::Rows;
+use crate::process_fds::ProcessFds;
 use crate::shared::{How, Shared};
 use fs_nodes::Buffers;
 use kern_model::limits::{MAX_DESCRIPTIONS, MAX_DESCRIPTORS};
@@ -53,7 +53,7 @@ impl From<NoMemory> for FdError {
 /// The descriptors of processes, the open descriptions to which they refer, and the last number of a description drawn of each
 /// label.
 pub struct FdTable {
-    rows: Rows,
+    processes: ProcessFds,
     descriptions: Descriptions,
     numbers: Numbers,
 }
@@ -61,7 +61,7 @@ pub struct FdTable {
 impl Drop for FdTable {
     fn drop(self) {
         let FdTable {
-            rows: _,
+            processes: _,
             descriptions: _,
             numbers: _,
         } = self;
@@ -78,9 +78,9 @@ impl Model for FdTable {
 
     ghost coded = { open_files_code (Prim.hlevel (codes, label_code)) (Prim.hlevel (codes, label_code)) (Prim.hlevel (codes, label_code)) label_code };
 
-    ghost view = { λ t. record { rows = t.rows; descriptions = descriptions_of t.descriptions; numbers = t.numbers } };
+    ghost view = { λ t. record { processes = t.processes; descriptions = descriptions_of t.descriptions; numbers = t.numbers } };
 
-    ghost invariant = { λ t. AreHeld t.rows t.descriptions t.numbers };
+    ghost invariant = { λ t. AreHeld t.processes t.descriptions t.numbers };
 }
 
 // An offset as a number of bytes, where it is within so many.
@@ -94,67 +94,67 @@ fn offset_within(to: i64, size: u32) -> Option<u32>
 }
 
 impl FdTable {
-    /// No row and no description, and no number drawn.
+    /// No process and no description, and no number drawn.
     pub fn new(alloc: Global) -> Self
         ensures { result ≡ no_files }
     {
         FdTable {
-            rows: Rows::new(alloc),
+            processes: ProcessFds::new(alloc),
             descriptions: Descriptions::new(alloc),
             numbers: Numbers::new(alloc),
         }
     }
 
-    /// Adds a row without descriptors for a process.
+    /// Adds a process, which has no descriptor.
     pub fn add_process(&mut self, who: &Pid) -> Result<(), NoMemory>
-        requires { map.get self.old.rows who.now ≡ None }
-        ensures ok { OnOk result (self.new ≡ with_row self.old who.now map.empty) }
+        requires { map.get self.old.processes who.now ≡ None }
+        ensures ok { OnOk result (self.new ≡ with_fds_of self.old who.now map.empty) }
         ensures err { OnErr result (self.new ≡ self.old) }
     {
-        self.rows.add(who, Row::new())
+        self.processes.add(who, FdSlots::new())
     }
 
-    /// Adds a row without descriptors for a process that has none.
+    /// Adds a process, which has no descriptor, where it is not there.
     pub fn reserve(&mut self, who: &Pid) -> Result<(), NoMemory>
-        ensures row { OnOk result (IsThere self.new.rows who.now) }
-        ensures same { (q : Process) → row_of self.new.rows q ≡ row_of self.old.rows q }
-        ensures others { (q : Process) → same_pid q who.now ≡ false → map.get self.new.rows q ≡ map.get self.old.rows q }
+        ensures process { OnOk result (IsThere self.new.processes who.now) }
+        ensures same { (q : Process) → fds_of self.new.processes q ≡ fds_of self.old.processes q }
+        ensures others { (q : Process) → same_pid q who.now ≡ false → map.get self.new.processes q ≡ map.get self.old.processes q }
         ensures descriptions { self.new.descriptions ≡ self.old.descriptions }
         ensures numbers { self.new.numbers ≡ self.old.numbers }
     {
-        if self.rows.has(who) {
+        if self.processes.has(who) {
             return Ok(());
         }
         self.add_process(who)
     }
 
-    /// Adds a row for a process, whose descriptors refer to the same descriptions as those of another process.
+    /// Adds a process, whose descriptors refer to the same descriptions as those of another process.
     pub fn copy_process(&mut self, from: &Pid, to: &Pid) -> Result<(), NoMemory>
-        requires { map.get self.old.rows to.now ≡ None }
-        ensures ok { OnOk result (self.new ≡ with_row self.old to.now (row_of self.old.rows from.now)) }
+        requires { map.get self.old.processes to.now ≡ None }
+        ensures ok { OnOk result (self.new ≡ with_fds_of self.old to.now (fds_at self.old from.now)) }
         ensures err { OnErr result (self.new ≡ self.old) }
     {
-        let row = self.rows.copy(from);
-        self.rows.add(to, row.copy())?;
+        let slots = self.processes.copy(from);
+        self.processes.add(to, slots.copy())?;
         for fd in 0..MAX_DESCRIPTORS as Fd {
-            if let Some(did) = row.get(fd) {
+            if let Some(did) = slots.get(fd) {
                 self.descriptions.hold(&did);
             }
         }
         Ok(())
     }
 
-    /// Closes all descriptors of a process and removes its row, if it has one. It takes no memory.
+    /// Closes all descriptors of a process and removes the process, if it is there. It takes no memory.
     pub fn drop_process<B: Buffers>(&mut self, who: &Pid, buffers: &mut B)
-        ensures left { self.new ≡ left_with self.old (map.remove self.old.rows who.now) }
+        ensures left { self.new ≡ left_with self.old (map.remove self.old.processes who.now) }
         ensures drained { B.objects buffers.new ≡ drained self.old.descriptions self.new.descriptions (B.objects buffers.old) }
         ensures rest { B.rest_same buffers.old buffers.new }
     {
-        let Some(row) = self.rows.remove(who) else {
+        let Some(slots) = self.processes.remove(who) else {
             return;
         };
         for fd in 0..MAX_DESCRIPTORS as Fd {
-            if let Some(did) = row.get(fd) {
+            if let Some(did) = slots.get(fd) {
                 let_go(&mut self.descriptions, &did, buffers);
             }
         }
@@ -165,7 +165,7 @@ impl FdTable {
     pub fn open_refusal(&self, who: &Pid, label: &Label, n: u32) -> Option<FdError>
         ensures { result ≡ open_refusal self.now who.now label.now n }
     {
-        if self.rows.count(who) + n as usize > MAX_DESCRIPTORS {
+        if self.processes.count(who) + n as usize > MAX_DESCRIPTORS {
             return Some(FdError::TooMany);
         }
         if self.numbers.last(label) as usize + n as usize > MAX_DESCRIPTIONS {
@@ -186,24 +186,24 @@ impl FdTable {
         id: Oid,
         how: How,
     ) -> Result<Fd, FdError>
-        requires { IsThere self.old.rows who.now }
+        requires { IsThere self.old.processes who.now }
         ensures refused { (e : FdError) → open_refusal self.old who.now label.now 1 ≡ Some e → result ≡ Err e }
         ensures memory { open_refusal self.old who.now label.now 1 ≡ None → IfErr result (λ e. is_no_memory e ≡ true) }
-        ensures fd { IfOk result (λ fd. fd ≡ lowest_free (row_of self.old.rows who.now)) }
+        ensures fd { IfOk result (λ fd. fd ≡ lowest_free (fds_at self.old who.now)) }
         ensures opened { OnOk result (self.new ≡ with_opened self.old who.now label.now (opened_for id how)) }
         ensures err { OnErr result (self.new ≡ self.old) }
     {
         if let Some(refusal) = self.open_refusal(who, label, 1) {
             return Err(refusal);
         }
-        let fd = self.rows.lowest(who);
+        let fd = self.processes.lowest(who);
         let did = self.next(label);
         self.descriptions.insert(&did, id, how)?;
         if let Err(e) = self.numbers.set(*label, did.n) {
             self.descriptions.release(&did);
             return Err(e.into());
         }
-        self.rows.set(who, fd, did);
+        self.processes.set(who, fd, did);
         Ok(fd)
     }
 
@@ -224,16 +224,16 @@ impl FdTable {
     /// `NotOpen` where the descriptor is not open, else `TooMany` where all descriptors are open.
     pub fn dup(&mut self, who: &Pid, fd: Fd) -> Result<Fd, FdError>
         ensures not_open { did_at self.old who.now fd ≡ None → result ≡ Err FdError.NotOpen }
-        ensures too_many { IsSome (did_at self.old who.now fd) → MAX_DESCRIPTORS ≤ fd_count (row_of self.old.rows who.now) → result ≡ Err FdError.TooMany }
-        ensures fd { IsSome (did_at self.old who.now fd) → fd_count (row_of self.old.rows who.now) < MAX_DESCRIPTORS → result ≡ Ok (lowest_free (row_of self.old.rows who.now)) }
-        ensures made { (did : Number) → did_at self.old who.now fd ≡ Some did → OnOk result (self.new ≡ with_row self.old who.now (with_lowest (row_of self.old.rows who.now) did)) }
+        ensures too_many { IsSome (did_at self.old who.now fd) → MAX_DESCRIPTORS ≤ fd_count (fds_at self.old who.now) → result ≡ Err FdError.TooMany }
+        ensures fd { IsSome (did_at self.old who.now fd) → HasFree (fds_at self.old who.now) → result ≡ Ok (lowest_free (fds_at self.old who.now)) }
+        ensures made { (did : Number) → did_at self.old who.now fd ≡ Some did → OnOk result (self.new ≡ with_dup self.old who.now did) }
         ensures err { OnErr result (self.new ≡ self.old) }
     {
         let did = self.did(who, fd).ok_or(FdError::NotOpen)?;
-        if self.rows.count(who) >= MAX_DESCRIPTORS {
+        if self.processes.count(who) >= MAX_DESCRIPTORS {
             return Err(FdError::TooMany);
         }
-        let lowest = self.rows.lowest(who);
+        let lowest = self.processes.lowest(who);
         self.set(who, lowest, did);
         Ok(lowest)
     }
@@ -247,14 +247,14 @@ impl FdTable {
     pub fn close<B: Buffers>(&mut self, who: &Pid, fd: Fd, buffers: &mut B) -> Result<(), FdError>
         ensures not_open { did_at self.old who.now fd ≡ None → result ≡ Err FdError.NotOpen }
         ensures open { IsSome (did_at self.old who.now fd) → IsOk result }
-        ensures left { OnOk result (self.new ≡ left_with self.old (map.insert self.old.rows who.now (map.remove (row_of self.old.rows who.now) fd))) }
+        ensures left { OnOk result (self.new ≡ left_with self.old (map.insert self.old.processes who.now (map.remove (fds_at self.old who.now) fd))) }
         ensures drained { OnOk result (B.objects buffers.new ≡ drained self.old.descriptions self.new.descriptions (B.objects buffers.old)) }
         ensures err { OnErr result (self.new ≡ self.old) }
         ensures untouched { OnErr result (B.objects buffers.new ≡ B.objects buffers.old) }
         ensures rest { B.rest_same buffers.old buffers.new }
     {
         let did = self.did(who, fd).ok_or(FdError::NotOpen)?;
-        self.rows.free(who, fd);
+        self.processes.free(who, fd);
         let_go(&mut self.descriptions, &did, buffers);
         Ok(())
     }
@@ -303,9 +303,9 @@ impl FdTable {
         ensures not_open { did_at self.old who.now fd ≡ None → result ≡ Err FdError.NotOpen }
         ensures past_end { IsSome (did_at self.old who.now fd) → is_past to size ≡ true → result ≡ Err FdError.PastEnd }
         ensures offset { IsSome (did_at self.old who.now fd) → is_past to size ≡ false → result ≡ Ok (unsigned_abs to) }
-        ensures moved { (did : Number) (d : Description) → did_at self.old who.now fd ≡ Some did → map.get self.old.descriptions did ≡ Some d → OnOk result (self.new ≡ with_offset self.old did d (unsigned_abs to)) }
+        ensures moved { ForDescription self.old who.now fd (λ did d. OnOk result (self.new ≡ with_offset self.old did d (unsigned_abs to))) }
         ensures err { OnErr result (self.new ≡ self.old) }
-        ensures rows { self.new.rows ≡ self.old.rows }
+        ensures processes { self.new.processes ≡ self.old.processes }
     {
         let did = self.did(who, fd).ok_or(FdError::NotOpen)?;
         let offset = offset_within(to, size).ok_or(FdError::PastEnd)?;
@@ -317,10 +317,10 @@ impl FdTable {
     fn did(&self, who: &Pid, fd: Fd) -> Option<Did>
         ensures did { result ≡ did_at self.now who.now fd }
         ensures below { (did : Number) → result ≡ Some did → fd < MAX_DESCRIPTORS }
-        ensures row { (did : Number) → result ≡ Some did → IsThere self.now.rows who.now }
+        ensures process { (did : Number) → result ≡ Some did → IsThere self.now.processes who.now }
         ensures there { (did : Number) → result ≡ Some did → IsThere self.now.descriptions did }
     {
-        self.rows.did(who, fd)
+        self.processes.did(who, fd)
     }
 
     // The same, with what is kept of it.
@@ -333,26 +333,26 @@ impl FdTable {
 
     // Has a descriptor that is free refer to a description. It takes no memory.
     fn set(&mut self, who: &Pid, fd: Fd, did: Did)
-        requires row { IsThere self.old.rows who.now }
+        requires process { IsThere self.old.processes who.now }
         requires free { did_at self.old who.now fd ≡ None }
         requires below { fd < MAX_DESCRIPTORS }
         requires there { IsThere self.old.descriptions did }
-        ensures { self.new ≡ with_row self.old who.now (map.insert (row_of self.old.rows who.now) fd did) }
+        ensures { self.new ≡ with_fds_of self.old who.now (map.insert (fds_at self.old who.now) fd did) }
     {
         self.descriptions.hold(&did);
-        self.rows.set(who, fd, did);
+        self.processes.set(who, fd, did);
     }
 
     /// Whether an object has a description for reading.
     pub fn has_reader(&self, id: &Oid) -> bool
-        ensures { result ≡ any_on self.now (λ d. d.reads) id.now }
+        ensures { result ≡ has_reader self.now id.now }
     {
         self.descriptions.has_reader(id)
     }
 
     /// Whether an object has a description for writing.
     pub fn has_writer(&self, id: &Oid) -> bool
-        ensures { result ≡ any_on self.now (λ d. d.writes) id.now }
+        ensures { result ≡ has_writer self.now id.now }
     {
         self.descriptions.has_writer(id)
     }

@@ -1,4 +1,4 @@
-// Which slots of a row are taken.
+// Which slots of a process are taken.
 ghost use Rattle.std.specs.Prelude.{◌≡◌, ◌<◌, ◌≤◌, true, false, IsTrue, count_by, get_or, not, replicate, set};
 ghost use Rattle.std.specs.List.{position_or_len};
 ghost use Rattle.kern_model.specs.declared.limits.TheConstants.{MAX_DESCRIPTORS};
@@ -7,7 +7,7 @@ use kern_model::Fd;
 use kern_model::limits::MAX_DESCRIPTORS;
 use std::marker::Model;
 
-/// Which slots of a row are taken, a bit for each.
+/// Which slots of a process are taken, a bit for each.
 #[derive(Drop)]
 pub struct TakenSlots {
     bits: u32,

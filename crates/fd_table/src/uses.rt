@@ -64,7 +64,7 @@ impl UseCount {
 /// How many descriptions each object has. One without descriptions is not kept.
 #[derive(Drop)]
 pub struct Uses {
-    kept: Table<UseCount>,
+    counts: Table<UseCount>,
 }
 
 impl Model for Uses {
@@ -72,14 +72,14 @@ impl Model for Uses {
     ghost use Rattle.std.specs.Coded.{codes};
     ghost use Rattle.lab_lattice.specs.Label.{label_code};
     ghost use Rattle.kern_model.specs.Keys.{oid_cmp};
-    ghost use Rattle.num_table.specs.Keys.{by_oid};
+    ghost use Rattle.kern_model.specs.ByNumber.{by_oid};
     ghost use Rattle.fd_table.specs.declared.uses.UseCount.{UseCount};
 
     ghost Value = { map.FinMap oid_cmp UseCount };
 
     ghost coded = { map.code (Prim.hlevel (codes, label_code)) (Prim.hlevel (codes, label_code)) };
 
-    ghost view = { λ a. by_oid a.kept };
+    ghost view = { λ a. by_oid a.counts };
 }
 
 impl Uses {
@@ -88,7 +88,7 @@ impl Uses {
         ensures { result ≡ map.empty }
     {
         Uses {
-            kept: Table::new(alloc),
+            counts: Table::new(alloc),
         }
     }
 
@@ -98,7 +98,7 @@ impl Uses {
     pub fn count(&self, id: &Oid) -> UseCount
         ensures { result ≡ get_or self.now id.now no_use }
     {
-        self.kept.get_at(id).copied().unwrap_or(NO_USE)
+        self.counts.get_at(id).copied().unwrap_or(NO_USE)
     }
 
     /// Counts one description more.
@@ -107,7 +107,7 @@ impl Uses {
         ensures err { OnErr result (self.new ≡ self.old) }
     {
         let count = self.count(id).plus(how)?;
-        self.kept.set_at(id, count)
+        self.counts.set_at(id, count)
     }
 
     /// Counts one description less. It takes no memory.
@@ -117,8 +117,8 @@ impl Uses {
     {
         let count = self.count(id).minus(how);
         if count == NO_USE {
-            self.kept.remove_at(id);
-        } else if self.kept.set_at(id, count).is_err() {
+            self.counts.remove_at(id);
+        } else if self.counts.set_at(id, count).is_err() {
             unreachable!();
         }
     }

@@ -2,11 +2,6 @@
 use Rattle.std.specs.Prelude.{◌≡◌, Result, Ok, Err, OnErr, OnOk}
 use Rattle.std.proofs.Common.{sym, subst}
 
--- what an error left, and what follows from it
-pub on_err : {X E P Q : Type 0} (r : Result X E) → (P → Q) → OnErr r P → OnErr r Q
-on_err (Ok x) f p = tt
-on_err (Err e) f p = f p
-
 -- what follows from either answer
 pub either_way : {X E A B P : Type 0} (r : Result X E) → (A → P) → (B → P) → OnOk r A → OnErr r B → P
 either_way (Ok x) f g a b = f a

@@ -4,6 +4,7 @@ pub mod CountLemmas
 pub mod DirLemmas
 pub mod Halving
 pub mod HeadLemmas
+pub mod LentLists
 pub mod LinkLemmas
 pub mod LoadLemmas
 pub mod MoveLemmas

@@ -1,4 +1,4 @@
--- What is kept of the names of objects, after an entry is set or goes.
+-- The index of the names of objects, after an entry is set or goes.
 use Rattle.std.specs.Prelude.{◌≡◌, ◌&&◌, ◌||◌, not, ℕ, ◌+◌, ◌-◌, ◌≤◌, ◌<◌, ◌==◌, Bool, true, false, List, [], ◌∷◌, ◌++◌, Option, Some, None, IfSome, IsSome, cond, count_by, get_or, is_some, length, refl, slice_get}
 use Rattle.std.specs.Ordering.{is_eq}
 use Rattle.std.specs.List.{find, list_all, list_any, swap_remove}
@@ -20,10 +20,11 @@ use Rattle.kern_model.specs.Maps.{any_entry, count_entries}
 use Rattle.kern_model.proofs.KeyLaws.{oid_cmp_total, oid_cmp_exact, spot_cmp_total, spot_cmp_exact}
 use Rattle.kern_model.proofs.MapLemmas.{get_or-absent, same_key, remove-absent}
 use Rattle.kern_model.proofs.Selections.{count_remove, get-remove_same}
-use Rattle.fs_nodes.specs.Rows.{IsSet, row_at}
+use Rattle.kern_model.specs.LabelLists.{IsSet, list_at}
 use Rattle.fs_nodes.proofs.Places.{one_number}
-use Rattle.fs_nodes.proofs.Rows.{item_set}
-use Rattle.fs_dirs.specs.Entries.{AreHolders, AreKept, HasLess, HasMore, HasMoved, Holders, IsIn, IsInPlace, IsWith, dirs_at, entries_alone, name_count}
+use Rattle.kern_model.proofs.ByNumber.{item_set_by}
+use Rattle.kern_model.proofs.NumberLaws.{oids}
+use Rattle.fs_dirs.specs.Entries.{AreHolders, AreIndexed, HasLess, HasMore, HasMoved, Holders, IsIn, IsInPlace, IsWith, dirs_at, entries_alone, name_count}
 use Rattle.fs_dirs.proofs.CountLemmas.{any_counted, any_entry-count, count-cons, count_entries-empty, count_entries-insert, count_entries-remove, insert-remove, passing}
 
 pub itself : (id : Oid) → same_oid id id ≡ true
@@ -60,25 +61,6 @@ nothing_more : (n : ℕ) → n ≡ 0 + n
 nothing_more n = omega arith
 
 -- ---- the names of one object change
-module _ (holders : Holders) (id : Oid) (row : List (List Oid)) (found : row_at holders id.label ≡ row) (row' : List (List Oid)) (after : Holders) (is : after ≡ table.insert holders id.label row') where
-  -- where its directories alone are others in the list of its label, they alone are others
-  pub set_at : (dirs : List Oid) → IsSet [] row id.n dirs row' → (q : Oid) → dirs_at after q ≡ cond (same_oid q id) dirs (dirs_at holders q)
-  set_at dirs set q =
-      ap (λ (h : Holders). dirs_at h q) is ∙ item_set [] holders id row' dirs (subst (λ (r : List (List Oid)). IsSet [] r id.n dirs row') (sym found) set) q
-
-  -- and where the list says the same, all are as before
-  pub same_at : ((m : ℕ) → get_or row' m [] ≡ get_or row m []) → (q : Oid) → dirs_at after q ≡ dirs_at holders q
-  same_at same q =
-      let set : IsSet [] row id.n (get_or row id.n []) row' = λ m. same m ∙ elim (m == id.n) as (λ b. (m == id.n) ≡ b → get_or row m [] ≡ cond b (get_or row id.n []) (get_or row m [])) [
-        | true ↦ λ t. ap (λ k. get_or row k []) (one_number m id.n t)
-        | false ↦ λ _. refl
-      ] refl in
-      set_at (get_or row id.n []) set q
-      ∙ elim (same_oid q id) as (λ b. same_oid q id ≡ b → cond b (get_or row id.n []) (dirs_at holders q) ≡ dirs_at holders q) [
-        | true ↦ λ t. ap (λ (r : List (List Oid)). get_or r id.n []) (sym found) ∙ ap (dirs_at holders) (sym (same_key oid_cmp_exact q id t))
-        | false ↦ λ _. refl
-      ] refl
-
 -- what holds of the object's directories now, and of all others as they were, holds of all
 module _ (holders : Holders) (id : Oid) (dirs : List Oid) (after : Holders) (is : (q : Oid) → dirs_at after q ≡ cond (same_oid q id) dirs (dirs_at holders q)) where
   each_at : (P : Bool → List Oid → List Oid → Type 0) → P true (dirs_at holders id) dirs → ((old : List Oid) → P false old old) → (q : Oid) → P (same_oid id q) (dirs_at holders q) (dirs_at after q)
@@ -90,18 +72,53 @@ module _ (holders : Holders) (id : Oid) (dirs : List Oid) (after : Holders) (is 
         | false ↦ λ _. other (dirs_at holders q)
       ] refl))
 
-  pub more_set : (dir : Oid) → IsWith (dirs_at holders id) dir dirs → HasMore holders id dir after
+  more_set : (dir : Oid) → IsWith (dirs_at holders id) dir dirs → HasMore holders id dir after
   more_set dir more = each_at (λ (b : Bool) (old new : List Oid). (test : Oid → Bool) → count_by test new ≡ cond (b && test dir) 1 0 + count_by test old) more (λ old test. nothing_more (count_by test old))
 
-  pub less_set : (dir : Oid) → IsWith dirs dir (dirs_at holders id) → HasMore after id dir holders
+  less_set : (dir : Oid) → IsWith dirs dir (dirs_at holders id) → HasMore after id dir holders
   less_set dir less = each_at (λ (b : Bool) (old new : List Oid). (test : Oid → Bool) → count_by test old ≡ cond (b && test dir) 1 0 + count_by test new) less (λ old test. nothing_more (count_by test old))
 
-  pub moved_set : (from to : Oid) → IsInPlace (dirs_at holders id) from to dirs → HasMoved holders id from to after
+  moved_set : (from to : Oid) → IsInPlace (dirs_at holders id) from to dirs → HasMoved holders id from to after
   moved_set from to moved = each_at (λ (b : Bool) (old new : List Oid). (test : Oid → Bool) → cond (b && test from) 1 0 + count_by test new ≡ cond (b && test to) 1 0 + count_by test old) moved (λ old test. refl)
+
+-- the same by the list of its label
+module _ (holders : Holders) (id : Oid) {list : List (List Oid)} {after : Holders} (left : List (List Oid)) (found : list_at holders id.label ≡ list) (is : after ≡ table.insert holders id.label left) where
+  -- where its directories alone are others in the list of its label, they alone are others
+  set_at : (dirs : List Oid) → IsSet [] list id.n dirs left → (q : Oid) → dirs_at after q ≡ cond (same_oid q id) dirs (dirs_at holders q)
+  set_at dirs put q =
+      ap (λ (h : Holders). dirs_at h q) is ∙ item_set_by oids holders id left [] dirs (subst (λ (r : List (List Oid)). IsSet [] r id.n dirs left) (sym found) put) q
+
+  -- and where the list says the same, all are as before
+  pub same_at : ((m : ℕ) → get_or left m [] ≡ get_or list m []) → (q : Oid) → dirs_at after q ≡ dirs_at holders q
+  same_at same q =
+      let set : IsSet [] list id.n (get_or list id.n []) left = λ m. same m ∙ elim (m == id.n) as (λ b. (m == id.n) ≡ b → get_or list m [] ≡ cond b (get_or list id.n []) (get_or list m [])) [
+        | true ↦ λ t. ap (λ k. get_or list k []) (one_number m id.n t)
+        | false ↦ λ _. refl
+      ] refl in
+      set_at (get_or list id.n []) set q
+      ∙ elim (same_oid q id) as (λ b. same_oid q id ≡ b → cond b (get_or list id.n []) (dirs_at holders q) ≡ dirs_at holders q) [
+        | true ↦ λ t. ap (λ (r : List (List Oid)). get_or r id.n []) (sym found) ∙ ap (dirs_at holders) (sym (same_key oid_cmp_exact q id t))
+        | false ↦ λ _. refl
+      ] refl
+
+  pub more_at : (dir : Oid) → IsSet [] list id.n (get_or list id.n [] ++ dir ∷ []) left → HasMore holders id dir after
+  more_at dir put =
+      let dirs : List Oid = get_or list id.n [] ++ dir ∷ [] in
+      more_set holders id dirs after (set_at dirs put) dir (pushed (dirs_at holders id) dir dirs (ap (λ (r : List (List Oid)). get_or r id.n [] ++ dir ∷ []) (sym found)))
+
+  pub less_at : (dir : Oid) → IsSet [] list id.n (get_or left id.n []) left → IsWith (get_or left id.n []) dir (get_or list id.n []) → HasMore after id dir holders
+  less_at dir put less =
+      let dirs : List Oid = get_or left id.n [] in
+      less_set holders id dirs after (set_at dirs put) dir (subst (λ (r : List (List Oid)). IsWith dirs dir (get_or r id.n [])) (sym found) less)
+
+  pub moved_at : (from to : Oid) → IsSet [] list id.n (get_or left id.n []) left → IsInPlace (get_or list id.n []) from to (get_or left id.n []) → HasMoved holders id from to after
+  moved_at from to put moved =
+      let dirs : List Oid = get_or left id.n [] in
+      moved_set holders id dirs after (set_at dirs put) from to (subst (λ (r : List (List Oid)). IsInPlace (get_or r id.n []) from to dirs) (sym found) moved)
 
 -- ---- the list of a label
 -- none of the names of an object is in a directory, where its label has no list
-pub never_absent : (holders : Holders) (id dir : Oid) → IsIn dir (dirs_at holders id) → row_at holders id.label ≡ [] → ⊥
+pub never_absent : (holders : Holders) (id dir : Oid) → IsIn dir (dirs_at holders id) → list_at holders id.label ≡ [] → ⊥
 never_absent holders id dir is_in absent =
     let none : count_by (λ (d : Oid). same_oid d dir) (dirs_at holders id) ≡ 0 = ap (λ (r : List (List Oid)). count_by (λ (d : Oid). same_oid d dir) (get_or r id.n [])) absent in
     omega (arith, none, is_in)
@@ -169,10 +186,10 @@ module _ (entries : FinMap spot_cmp Oid) (dir : Oid) (name : Name) (id : Oid) (a
   one_at_most true = omega arith
   one_at_most false = omega arith
 
-  -- with the object's names, each object's are kept
-  pub kept-insert : (holders more : Holders) (total : ℕ) → AreKept entries holders total → HasMore holders id dir more → name_count entries id < MAX_LINKS → AreKept after_insert more (total + 1)
-  kept-insert holders more total kept has few = record {
-    holders_are = λ q test. has q test ∙ ap (λ n. cond (same_oid id q && test dir) 1 0 + n) (kept.holders_are q test)
+  -- with the object's names, each object's are indexed
+  pub indexed-insert : (holders more : Holders) (total : ℕ) → AreIndexed entries holders total → HasMore holders id dir more → name_count entries id < MAX_LINKS → AreIndexed after_insert more (total + 1)
+  indexed-insert holders more total indexed has few = record {
+    holders_are = λ q test. has q test ∙ ap (λ n. cond (same_oid id q && test dir) 1 0 + n) (indexed.holders_are q test)
         ∙ sym (count_entries-insert (λ (spot : Spot) (at : Oid). same_oid at q && test spot.0) spot_cmp_total entries (dir, name) id absent);
     few = λ q.
         let counted = count_entries-insert (λ (spot : Spot) (at : Oid). same_oid at q) spot_cmp_total entries (dir, name) id absent in
@@ -183,10 +200,10 @@ module _ (entries : FinMap spot_cmp Oid) (dir : Oid) (name : Name) (id : Oid) (a
               omega (arith, counted, same, one, few)
           | false ↦ λ f.
               let none : ◌≡◌ {A = ℕ} (cond (same_oid id q) 1 0) 0 = ap (λ b. cond {A = ℕ} b 1 0) f in
-              let before = kept.few q in
+              let before = indexed.few q in
               omega (arith, counted, none, before)
         ] refl;
-    counted = ap (λ n. n + 1) kept.counted ∙ sym (len-insert spot_cmp_total entries (dir, name) id ∙ ap (λ (w : Option Oid). cond (is_some w) (table.len entries) (table.len entries + 1)) absent);
+    counted = ap (λ n. n + 1) indexed.counted ∙ sym (len-insert spot_cmp_total entries (dir, name) id ∙ ap (λ (w : Option Oid). cond (is_some w) (table.len entries) (table.len entries + 1)) absent);
   }
 
 -- ---- an entry that goes
@@ -199,59 +216,59 @@ module _ (entries : FinMap spot_cmp Oid) (dir : Oid) (name : Name) (id : Oid) (t
   one_less = ap table.len (sym (insert-remove spot_cmp_total spot_cmp_exact entries (dir, name) id there)) ∙ len-insert spot_cmp_total after_remove (dir, name) id
       ∙ ap (λ (w : Option Oid). cond (is_some w) (table.len after_remove) (table.len after_remove + 1)) (get-remove_same spot_cmp_total entries (dir, name))
 
-  -- with what is left of the object's names, each object's are kept
-  pub kept-remove : (holders less : Holders) (total : ℕ) → AreKept entries holders total → HasMore less id dir holders → AreKept after_remove less (total - 1)
-  kept-remove holders less total kept has = record {
+  -- with what is left of the object's names, each object's are indexed
+  pub indexed-remove : (holders less : Holders) (total : ℕ) → AreIndexed entries holders total → HasMore less id dir holders → AreIndexed after_remove less (total - 1)
+  indexed-remove holders less total indexed has = record {
     holders_are = λ q test.
-        let before = kept.holders_are q test in
+        let before = indexed.holders_are q test in
         let more = has q test in
         let counted = count_entries-remove (λ (spot : Spot) (at : Oid). same_oid at q && test spot.0) spot_cmp_total spot_cmp_exact entries (dir, name) id there in
         omega (arith, before, more, counted);
     few = λ q.
         let fewer = count_remove spot_cmp_total spot_cmp_exact (λ (spot : Spot) (at : Oid). same_oid at q) (dir, name) entries in
-        let before = kept.few q in
+        let before = indexed.few q in
         omega (arith, fewer, before);
-    counted = let less = one_less in let same = kept.counted in omega (arith, less, same);
+    counted = let less = one_less in let same = indexed.counted in omega (arith, less, same);
   }
 
   -- one of the object's names is in the directory
-  pub name_is_in : (holders : Holders) (total : ℕ) → AreKept entries holders total → IsIn dir (dirs_at holders id)
-  name_is_in holders total kept =
-      let held = kept.holders_are id (λ (d : Oid). same_oid d dir) in
+  pub name_is_in : (holders : Holders) (total : ℕ) → AreIndexed entries holders total → IsIn dir (dirs_at holders id)
+  name_is_in holders total indexed =
+      let held = indexed.holders_are id (λ (d : Oid). same_oid d dir) in
       let counted = count_entries-remove (λ (spot : Spot) (at : Oid). same_oid at id && same_oid spot.0 dir) spot_cmp_total spot_cmp_exact entries (dir, name) id there in
       let here : ◌≡◌ {A = ℕ} (cond (same_oid id id && same_oid dir dir) 1 0) 1 = ap (λ b. cond {A = ℕ} (b && same_oid dir dir) 1 0) (itself id) ∙ ap (λ b. cond {A = ℕ} b 1 0) (itself dir) in
       omega (arith, held, counted, here)
 
 -- ---- an entry that goes, if it is there
-module _ (entries : FinMap spot_cmp Oid) (dir : Oid) (name : Name) (holders : Holders) (total : ℕ) (kept : AreKept entries holders total) where
+module _ (entries : FinMap spot_cmp Oid) (dir : Oid) (name : Name) (holders : Holders) (total : ℕ) (indexed : AreIndexed entries holders total) where
   -- one of the object's names is in the directory
   pub name_there : (w : Option Oid) → table.get entries (dir, name) ≡ w → IfSome w (λ (id : Oid). IsIn dir (dirs_at holders id))
   name_there None is = tt
-  name_there (Some id) is = name_is_in entries dir name id is holders total kept
+  name_there (Some id) is = name_is_in entries dir name id is holders total indexed
 
   -- where it is there, there is an entry
   pub some_entry : (w : Option Oid) → table.get entries (dir, name) ≡ w → IsSome w → 1 ≤ total
   some_entry None is h = absurd (true≢false (sym h))
-  some_entry (Some id) is h = let less = one_less entries dir name id is in let counted = kept.counted in omega (arith, less, counted)
+  some_entry (Some id) is h = let less = one_less entries dir name id is in let counted = indexed.counted in omega (arith, less, counted)
 
-  -- with what is left of the object's names, each object's are kept
-  pub kept-without : (w : Option Oid) → table.get entries (dir, name) ≡ w → (less : Holders) → HasLess holders w dir less → AreKept (table.remove entries (dir, name)) less (cond (is_some w) (total - 1) total)
-  kept-without None is less has =
-      subst (λ (m : FinMap spot_cmp Oid). AreKept m less total) (sym (remove-absent spot_cmp_total spot_cmp_exact entries (dir, name) is))
-      (subst (λ (h : Holders). AreKept entries h total) (sym has) kept)
-  kept-without (Some id) is less has = kept-remove entries dir name id is holders less total kept has
+  -- with what is left of the object's names, each object's are indexed
+  pub indexed-without : (w : Option Oid) → table.get entries (dir, name) ≡ w → (less : Holders) → HasLess holders w dir less → AreIndexed (table.remove entries (dir, name)) less (cond (is_some w) (total - 1) total)
+  indexed-without None is less has =
+      subst (λ (m : FinMap spot_cmp Oid). AreIndexed m less total) (sym (remove-absent spot_cmp_total spot_cmp_exact entries (dir, name) is))
+      (subst (λ (h : Holders). AreIndexed entries h total) (sym has) indexed)
+  indexed-without (Some id) is less has = indexed-remove entries dir name id is holders less total indexed has
 
--- what is kept of the names of objects, by what it says of each one
-pub kept_same : (entries : FinMap spot_cmp Oid) (holders after : Holders) (total : ℕ) → ((q : Oid) → dirs_at after q ≡ dirs_at holders q) → AreKept entries holders total → AreKept entries after total
-kept_same entries holders after total same kept = record {
-  holders_are = λ q test. ap (count_by test) (same q) ∙ kept.holders_are q test;
-  few = kept.few;
-  counted = kept.counted;
+-- the index of the names of objects, by what it says of each one
+pub indexed_same : (entries : FinMap spot_cmp Oid) (holders after : Holders) (total : ℕ) → ((q : Oid) → dirs_at after q ≡ dirs_at holders q) → AreIndexed entries holders total → AreIndexed entries after total
+indexed_same entries holders after total same indexed = record {
+  holders_are = λ q test. ap (count_by test) (same q) ∙ indexed.holders_are q test;
+  few = indexed.few;
+  counted = indexed.counted;
 }
 
 -- ---- no entry
-pub nothing_kept : AreKept table.empty table.empty 0
-nothing_kept = record {
+pub nothing_indexed : AreIndexed table.empty table.empty 0
+nothing_indexed = record {
   holders_are = λ q test. ap (λ (r : List (List Oid)). count_by test (get_or r q.n [])) (get_or-absent table.empty q.label [] (get-empty label_cmp q.label)) ∙ sym (count_entries-empty spot_cmp (λ (spot : Spot) (at : Oid). same_oid at q && test spot.0));
   few = λ q. let none : name_count table.empty q ≡ 0 = count_entries-empty spot_cmp (λ (spot : Spot) (at : Oid). same_oid at q) in omega (arith, none);
   counted = sym (len-empty spot_cmp Oid);
@@ -281,10 +298,10 @@ module _ (entries : FinMap spot_cmp Oid) (holders more after : Holders) (id dir 
       let here : ◌≡◌ {A = ℕ} (cond (same_oid id id && same_oid dir dir) 1 0) 1 = ap (λ b. cond {A = ℕ} (b && same_oid dir dir) 1 0) (itself id) ∙ ap (λ b. cond {A = ℕ} b 1 0) (itself dir) in
       omega (arith, one, here)
 
-  -- the names are kept as before
-  pub kept_again : HasMore after id dir more → (total : ℕ) → AreKept entries holders total → AreKept entries after total
-  kept_again taken total kept = record {
-    holders_are = λ q test. let one = added q test in let again = taken q test in let before = kept.holders_are q test in omega (arith, one, again, before);
-    few = kept.few;
-    counted = kept.counted;
+  -- the names are indexed as before
+  pub indexed_again : HasMore after id dir more → (total : ℕ) → AreIndexed entries holders total → AreIndexed entries after total
+  indexed_again taken total indexed = record {
+    holders_are = λ q test. let one = added q test in let again = taken q test in let before = indexed.holders_are q test in omega (arith, one, again, before);
+    few = indexed.few;
+    counted = indexed.counted;
   }

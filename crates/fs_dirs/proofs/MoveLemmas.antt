@@ -1,4 +1,4 @@
--- What is kept of the names of objects, after an entry moves.
+-- The index of the names of objects, after an entry moves.
 use Rattle.std.specs.Prelude.{◌≡◌, ◌&&◌, ◌≤◌, ℕ, ◌+◌, ◌-◌, Bool, true, false, Option, Some, None, cond, is_some, refl}
 use Rattle.std.specs.declared.cmp.Ordering.{Ordering}
 use Rattle.std.specs.Ordering.{eq_by_cmp}
@@ -14,9 +14,9 @@ use Rattle.kern_model.specs.Maps.{count_entries}
 use Rattle.kern_model.proofs.KeyLaws.{spot_cmp_total, spot_cmp_exact}
 use Rattle.kern_model.proofs.MapLemmas.{same_key}
 use Rattle.kern_model.proofs.Selections.{count_remove, get-remove_same}
-use Rattle.fs_dirs.specs.Entries.{AreKept, HasLess, HasMoved, Holders, IsIn, dirs_at, name_count}
+use Rattle.fs_dirs.specs.Entries.{AreIndexed, HasLess, HasMoved, Holders, IsIn, dirs_at, name_count}
 use Rattle.fs_dirs.proofs.CountLemmas.{count_entries-insert, count_entries-remove}
-use Rattle.fs_dirs.proofs.LinkLemmas.{kept-without, name_is_in, one_less}
+use Rattle.fs_dirs.proofs.LinkLemmas.{indexed-without, name_is_in, one_less}
 
 -- ---- tables
 module _ {K X : Type 0} {R : K → K → Ordering} (o : IsTotalOrder R) (exact : IsAntisymmetric R) (m : FinMap R X) (k q : K) (apart : eq_by_cmp R k q ≡ false) where
@@ -78,16 +78,16 @@ module _ (entries : FinMap spot_cmp Oid) (dir : Oid) (name : Name) (into : Oid) 
       let more : table.len moved ≡ table.len left + 1 = len-insert spot_cmp_total left (into, new) id ∙ ap (λ (w : Option Oid). cond (is_some w) (table.len left) (table.len left + 1)) left_absent in
       omega (arith, less, more)
 
-  -- each object's names are kept, where those of the object that moves are
-  kept-moved : (holders after : Holders) (total : ℕ) → AreKept entries holders total → HasMoved holders id dir into after → AreKept moved after total
-  kept-moved holders after total kept has = record {
+  -- each object's names are indexed, where those of the object that moves are
+  indexed-moved : (holders after : Holders) (total : ℕ) → AreIndexed entries holders total → HasMoved holders id dir into after → AreIndexed moved after total
+  indexed-moved holders after total indexed has = record {
     holders_are = λ q test.
-        let before = kept.holders_are q test in
+        let before = indexed.holders_are q test in
         let names = has q test in
         let counted = moved_count q test in
         omega (arith, before, names, counted);
-    few = λ q. subst (λ n. n ≤ MAX_LINKS) (sym (as_many q)) (kept.few q);
-    counted = kept.counted ∙ sym left_len;
+    few = λ q. subst (λ n. n ≤ MAX_LINKS) (sym (as_many q)) (indexed.few q);
+    counted = indexed.counted ∙ sym left_len;
   }
 
 -- ---- an entry that moves to another spot
@@ -112,14 +112,14 @@ module _ (entries : FinMap spot_cmp Oid) (dir : Oid) (name : Name) (into : Oid) 
       let fewer = count_remove spot_cmp_total spot_cmp_exact (λ (spot : Spot) (at : Oid). same_oid at q) (into, new) entries in
       omega (arith, same, fewer)
 
-  module _ (holders : Holders) (total : ℕ) (kept : AreKept entries holders total) (w : Option Oid) (is : table.get entries (into, new) ≡ w) (less : Holders) (has : HasLess holders w into less) where
+  module _ (holders : Holders) (total : ℕ) (indexed : AreIndexed entries holders total) (w : Option Oid) (is : table.get entries (into, new) ≡ w) (less : Holders) (has : HasLess holders w into less) where
     -- one of the object's names is in the directory, also without that of the object that gives way
     pub relocated_there : IsIn dir (dirs_at less id)
-    relocated_there = name_is_in freed dir name id still_there less (cond (is_some w) (total - 1) total) (kept-without entries into new holders total kept w is less has)
+    relocated_there = name_is_in freed dir name id still_there less (cond (is_some w) (total - 1) total) (indexed-without entries into new holders total indexed w is less has)
 
-    -- each object's names are kept
-    pub kept-relocated : (after : Holders) → HasMoved less id dir into after → AreKept relocated after (cond (is_some w) (total - 1) total)
-    kept-relocated after moves =
-        subst (λ (m : FinMap spot_cmp Oid). AreKept m after (cond (is_some w) (total - 1) total)) over_freed
-        (kept-moved freed dir name into new id still_there (get-remove_same spot_cmp_total entries (into, new)) less after (cond (is_some w) (total - 1) total)
-        (kept-without entries into new holders total kept w is less has) moves)
+    -- each object's names are indexed
+    pub indexed-relocated : (after : Holders) → HasMoved less id dir into after → AreIndexed relocated after (cond (is_some w) (total - 1) total)
+    indexed-relocated after moves =
+        subst (λ (m : FinMap spot_cmp Oid). AreIndexed m after (cond (is_some w) (total - 1) total)) over_freed
+        (indexed-moved freed dir name into new id still_there (get-remove_same spot_cmp_total entries (into, new)) less after (cond (is_some w) (total - 1) total)
+        (indexed-without entries into new holders total indexed w is less has) moves)

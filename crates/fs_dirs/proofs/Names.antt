@@ -1,6 +1,7 @@
 -- The entries of one directory: what a look-up finds, and what an edit makes of the map.
-use Rattle.std.proofs.Common.{◌≡◌, ℕ, List, [], ◌∷◌, length, get_or, set, Some, None, ap, sym, ◌∙◌}
+use Rattle.std.proofs.Common.{◌≡◌, ◌+◌, ◌<◌, ◌≤◌, ℕ, List, [], ◌∷◌, length, get_or, set, Some, None, ap, sym, ◌∙◌, arith}
 use Rattle.std.specs.Prelude.{Option, map, not, refl, slice_get}
+use Rattle.std.specs.declared.cmp.Ordering.TheVariants.{Less, Greater}
 use Rattle.std.specs.Ordering.{eq_by_cmp}
 use Rattle.std.specs.List.{insert, remove}
 use Rattle.std.specs.Option.{option_map}
@@ -12,9 +13,9 @@ use Rattle.std.proofs.lemmas.List.{length-map}
 use Rattle.std.proofs.lemmas.Option.{slice_get-map}
 use Rattle.fs_path.specs.Name.{Name}
 use Rattle.kern_model.specs.declared.numbers.Oid.{Oid}
-use Rattle.fs_dirs.specs.Directory.{AreSorted, IsAt, IsGap, directory_of, name_cmp, pairs_of}
+use Rattle.fs_dirs.specs.Directory.{AreSorted, IsAt, IsBetween, IsGap, directory_of, name_cmp, pairs_of}
 use Rattle.fs_dirs.specs.declared.slot.Slot.{Slot}
-use Rattle.fs_dirs.proofs.Sorted.{holds_at, find_at, find_none, put_in, put_over, taken_out, sorted_put, map_put, sorted_without, map_without}
+use Rattle.fs_dirs.proofs.Sorted.{holds_at, less_upto, greater_from, find_at, find_none, put_in, put_over, taken_out, sorted_put, map_put, sorted_without, map_without}
 
 abbrev pair_of : Slot → Name × Oid
 pair_of e = (e.entry.value.name, e.entry.value.id)
@@ -33,6 +34,28 @@ first_names (e ∷ es) = ap (λ ns. e.entry.value.name ∷ ns) (first_names es)
 objects : (es : List Slot) → map (λ (p : Name × Oid). p.1) (pairs_of es) ≡ map (λ (e : Slot). e.entry.value.id) es
 objects [] = refl
 objects (e ∷ es) = ap (λ ids. e.entry.value.id ∷ ids) (objects es)
+
+-- the half that is left, where a name is between two places and another one stands in their middle
+module _ (es : List Slot) (sorted : AreSorted es) (name : Name) (from to : ℕ) (between : IsBetween es name from to) (middle : ℕ) (least : from ≤ middle) (most : middle < to) (there : Slot) (is : there ≡ get_or es middle there) where
+  pub between_after : name_cmp there.entry.value.name name ≡ Less → IsBetween es name (middle + 1) to
+  between_after less =
+      let within = between.within in
+      record {
+        ordered = omega arith;
+        within = between.within;
+        less = less_upto pair_of nat_list_cmp_total es name middle sorted (omega arith) (holds_at (λ (e : Slot). name_cmp e.entry.value.name name ≡ Less) es middle there (omega arith) (ap (λ (e : Slot). name_cmp e.entry.value.name name) (sym is) ∙ less));
+        greater = between.greater;
+      }
+
+  pub between_before : name_cmp there.entry.value.name name ≡ Greater → IsBetween es name from middle
+  between_before greater =
+      let within = between.within in
+      record {
+        ordered = least;
+        within = omega arith;
+        less = between.less;
+        greater = greater_from pair_of nat_list_cmp_total es name middle sorted (holds_at (λ (e : Slot). name_cmp e.entry.value.name name ≡ Greater) es middle there (omega arith) (ap (λ (e : Slot). name_cmp e.entry.value.name name) (sym is) ∙ greater));
+      }
 
 module _ (es : List Slot) (sorted : AreSorted es) where
   pub how_many : map.len (directory_of es) ≡ length es

@@ -1,6 +1,6 @@
 -- Sorted lists, seen as finite maps: what a search of one finds, and what an edit of one makes.
 use Rattle.std.proofs.Common.{◌≡◌, ℕ, zero, suc, ◌+◌, ◌<◌, ◌≤◌, Bool, true, false, List, [], ◌∷◌, length, get_or, set, Some, None, refl, ap, sym, ◌∙◌, subst, arith, inl, inr}
-use Rattle.std.specs.Prelude.{T, not, cond, ◌&&◌, map}
+use Rattle.std.specs.Prelude.{T, not, cond, map}
 use Rattle.std.specs.declared.cmp.Ordering.{Ordering}
 use Rattle.std.specs.declared.cmp.Ordering.TheVariants.{Less, Equal, Greater}
 use Rattle.std.specs.Ordering.{eq_by_cmp, is_eq, is_lt, ordering_reverse}
@@ -12,14 +12,7 @@ use Rattle.std.specs.FinMap.Entries.{below_all, by_order, where_key, is_sorted-p
 use Rattle.std.proofs.lemmas.Bool.{cases_lt}
 use Rattle.std.proofs.lemmas.List.{get_or_default}
 use Rattle.std.proofs.lemmas.Cmp.{alike_right, tied_back}
-
-first : (a b : Bool) → T (a && b) → T a
-first true b h = tt
-first false b h = h
-
-second : (a b : Bool) → T (a && b) → T b
-second true b h = h
-second false b h = absurd h
+use Rattle.kern_model.proofs.MapLemmas.{head_T, tail_T}
 
 less : (r : Ordering) → T (is_lt r) → r ≡ Less
 less Less h = refl
@@ -38,14 +31,14 @@ holds_at P xs i x within h d = subst P (get_or_default xs i x d within) h
 module _ {A K X : Type 0} (pair : A → K × X) {R : K → K → Ordering} (o : IsTotalOrder R) where
   below_at : (k : K) (xs : List A) (i : ℕ) (d : A) → T (below_all R k (map pair xs)) → i < length xs → R k (pair (get_or xs i d)).0 ≡ Less
   below_at k [] i d h within = absurd (omega arith)
-  below_at k (x ∷ xs) zero d h within = less _ (first _ _ h)
-  below_at k (x ∷ xs) (suc i) d h within = below_at k xs i d (second _ _ h) (omega arith)
+  below_at k (x ∷ xs) zero d h within = less _ (head_T _ _ h)
+  below_at k (x ∷ xs) (suc i) d h within = below_at k xs i d (tail_T _ _ h) (omega arith)
 
   rises : (xs : List A) → T (is_sorted R (map pair xs)) → (i j : ℕ) (d : A) → i < j → j < length xs → R (pair (get_or xs i d)).0 (pair (get_or xs j d)).0 ≡ Less
   rises [] h i j d below within = absurd (omega arith)
   rises (x ∷ xs) h i zero d below within = absurd (omega arith)
-  rises (x ∷ xs) h zero (suc j) d below within = below_at (pair x).0 xs j d (first _ _ h) (omega arith)
-  rises (x ∷ xs) h (suc i) (suc j) d below within = rises xs (second _ _ h) i j d (omega arith) (omega arith)
+  rises (x ∷ xs) h zero (suc j) d below within = below_at (pair x).0 xs j d (head_T _ _ h) (omega arith)
+  rises (x ∷ xs) h (suc i) (suc j) d below within = rises xs (tail_T _ _ h) i j d (omega arith) (omega arith)
 
   forth : (x k : K) → R x k ≡ Greater → R k x ≡ Less
   forth x k e = o.antisymm k x ∙ ap ordering_reverse e
@@ -56,8 +49,8 @@ module _ {A K X : Type 0} (pair : A → K × X) {R : K → K → Ordering} (o : 
   all_kept : (j k : K) (es : List (K × X)) → R j k ≡ Equal → T (below_all R j es) → where_key R (λ x. not (eq_by_cmp R k x)) es ≡ es
   all_kept j k [] tie h = refl
   all_kept j k (e ∷ es) tie h =
-      ap (λ r. cond (not (is_eq r)) (e ∷ where_key R (λ x. not (eq_by_cmp R k x)) es) (where_key R (λ x. not (eq_by_cmp R k x)) es)) (sym (o.congr j k e.0 tie) ∙ less _ (first _ _ h))
-      ∙ ap (λ fs. e ∷ fs) (all_kept j k es tie (second _ _ h))
+      ap (λ r. cond (not (is_eq r)) (e ∷ where_key R (λ x. not (eq_by_cmp R k x)) es) (where_key R (λ x. not (eq_by_cmp R k x)) es)) (sym (o.congr j k e.0 tie) ∙ less _ (head_T _ _ h))
+      ∙ ap (λ fs. e ∷ fs) (all_kept j k es tie (tail_T _ _ h))
 
   -- ---- what a search finds
   -- an item before one that is too small is too small
@@ -79,9 +72,9 @@ module _ {A K X : Type 0} (pair : A → K × X) {R : K → K → Ordering} (o : 
   find_at [] k i a h within here is = absurd (omega arith)
   find_at (x ∷ xs) k zero a h within here is = ap (λ r. cond (is_eq r) (Some (pair x).1) (find R k (map pair xs))) (tied_back o _ _ (here x)) ∙ ap (λ y. Some (pair y).1) (sym is)
   find_at (x ∷ xs) k (suc i) a h within here is =
-      let before : R (pair x).0 k ≡ Less = sym (alike_right o _ k (pair x).0 (here x)) ∙ below_at (pair x).0 xs i x (first _ _ h) (omega arith) in
+      let before : R (pair x).0 k ≡ Less = sym (alike_right o _ k (pair x).0 (here x)) ∙ below_at (pair x).0 xs i x (head_T _ _ h) (omega arith) in
       ap (λ r. cond (is_eq r) (Some (pair x).1) (find R k (map pair xs))) (o.antisymm k _ ∙ ap ordering_reverse before)
-      ∙ find_at xs k i a (second _ _ h) (omega arith) here is
+      ∙ find_at xs k i a (tail_T _ _ h) (omega arith) here is
 
   -- where no item has the key, nothing is found
   pub find_none : (xs : List A) (k : K) (i : ℕ) → AllWithin (λ a. R (pair a).0 k ≡ Less) xs 0 i → AllWithin (λ a. R (pair a).0 k ≡ Greater) xs i (length xs) → find R k (map pair xs) ≡ None
@@ -112,19 +105,19 @@ module _ {A K X : Type 0} (pair : A → K × X) {R : K → K → Ordering} (o : 
   put_over (x ∷ xs) k zero a v h within here is =
       ap (λ e. e ∷ map pair xs) (is x) ∙ ap (λ r. by_order r ((k, v) ∷ pair x ∷ map pair xs) (((pair x).0, v) ∷ map pair xs) (pair x ∷ put R k v (map pair xs))) (sym (tied_back o _ _ (here x)))
   put_over (x ∷ xs) k (suc i) a v h within here is =
-      let before : R (pair x).0 k ≡ Less = sym (alike_right o _ k (pair x).0 (here x)) ∙ below_at (pair x).0 xs i x (first _ _ h) (omega arith) in
-      ap (λ es. pair x ∷ es) (put_over xs k i a v (second _ _ h) (omega arith) here is)
+      let before : R (pair x).0 k ≡ Less = sym (alike_right o _ k (pair x).0 (here x)) ∙ below_at (pair x).0 xs i x (head_T _ _ h) (omega arith) in
+      ap (λ es. pair x ∷ es) (put_over xs k i a v (tail_T _ _ h) (omega arith) here is)
       ∙ ap (λ r. by_order r ((k, v) ∷ pair x ∷ map pair xs) (((pair x).0, v) ∷ map pair xs) (pair x ∷ put R k v (map pair xs))) (sym (o.antisymm k _ ∙ ap ordering_reverse before))
 
   -- the item with the key is taken out
   pub taken_out : (xs : List A) (k : K) (i : ℕ) → T (is_sorted R (map pair xs)) → i < length xs → HoldsAt (λ x. R (pair x).0 k ≡ Equal) xs i → map pair (remove xs i) ≡ where_key R (λ x. not (eq_by_cmp R k x)) (map pair xs)
   taken_out [] k i h within here = absurd (omega arith)
   taken_out (x ∷ xs) k zero h within here =
-      sym (all_kept (pair x).0 k (map pair xs) (here x) (first _ _ h))
+      sym (all_kept (pair x).0 k (map pair xs) (here x) (head_T _ _ h))
       ∙ ap (λ r. cond (not (is_eq r)) (pair x ∷ where_key R (λ x. not (eq_by_cmp R k x)) (map pair xs)) (where_key R (λ x. not (eq_by_cmp R k x)) (map pair xs))) (sym (tied_back o _ _ (here x)))
   taken_out (x ∷ xs) k (suc i) h within here =
-      let before : R (pair x).0 k ≡ Less = sym (alike_right o _ k (pair x).0 (here x)) ∙ below_at (pair x).0 xs i x (first _ _ h) (omega arith) in
-      ap (λ es. pair x ∷ es) (taken_out xs k i (second _ _ h) (omega arith) here)
+      let before : R (pair x).0 k ≡ Less = sym (alike_right o _ k (pair x).0 (here x)) ∙ below_at (pair x).0 xs i x (head_T _ _ h) (omega arith) in
+      ap (λ es. pair x ∷ es) (taken_out xs k i (tail_T _ _ h) (omega arith) here)
       ∙ ap (λ r. cond (not (is_eq r)) (pair x ∷ where_key R (λ x. not (eq_by_cmp R k x)) (map pair xs)) (where_key R (λ x. not (eq_by_cmp R k x)) (map pair xs))) (sym (o.antisymm k _ ∙ ap ordering_reverse before))
 
 -- ---- the maps that sorted lists make

@@ -18,7 +18,7 @@ use Rattle.kern_model.proofs.KeyLaws.{oid_cmp_total, spot_cmp_total}
 use Rattle.kern_model.proofs.MapLemmas.{head_T, tail_T}
 use Rattle.fs_dirs.specs.Entries.{name_count}
 use Rattle.fs_dirs.proofs.CountLemmas.{count-cons, no_entries}
-use Rattle.fs_dirs.proofs.DirLemmas.{is_less}
+use Rattle.kern_model.proofs.SortedEntries.{is_less}
 
 -- ---- an item in a sorted list
 module _ {K X : Type 0} {R : K → K → Ordering} (o : IsTotalOrder R) (k : K) (x : X) (rest : List (K × X)) where

@@ -7,7 +7,7 @@ use Rattle.std.proofs.lemmas.List.{append-nil, drop_all, get_or_append_left, get
 use Rattle.std.proofs.lemmas.List.Concat.{flat_map-append, get_or-flat_map}
 use Rattle.std.proofs.lemmas.List.Edits.{insert-append_left}
 use Rattle.fs_dirs.specs.declared.tiers.TheConstants.{TIER}
-use Rattle.fs_dirs.specs.Tiers.{AreTiers, HasRoom, IsKept, Tier, joined}
+use Rattle.fs_dirs.specs.Tiers.{AreTiers, HasSpare, AreTiersOf, Tier, all_items}
 
 -- an edit after the first lists
 insert_past : {X : Type 0} (xs ys : List X) (i at : ℕ) (x : X) → at ≡ length xs + i → insert (xs ++ ys) at x ≡ xs ++ insert ys i x
@@ -26,7 +26,7 @@ remove_before [] ys i h = absurd (omega arith)
 remove_before (x ∷ xs) ys zero h = refl
 remove_before (x ∷ xs) ys (suc i) h = ap (λ zs. x ∷ zs) (remove_before xs ys i (omega arith))
 
--- lists of items joined in order
+-- lists of items all_items in order
 module _ {A X : Type 0} (f : A → List X) where
   -- one that has the same items
   pub same_items : (ts : List A) (i : ℕ) (a d : A) → f a ≡ f (get_or ts i d) → flat_map f (set ts i a) ≡ flat_map f ts
@@ -130,9 +130,6 @@ pub on_some : {B P : Type 0} (r : Option B) → (IsSome r → P) → OnSome r P
 on_some None h = tt
 on_some (Some b) h = h refl
 
-pub at_some : {B P : Type 0} {r : Option B} {b : B} → r ≡ Some b → OnSome r P → P
-at_some {P = P} is h = subst (λ o. OnSome o P) is h
-
 pub if_some : {B : Type 0} {P Q : B → Type 0} (r : Option B) → ((b : B) → IsSome r → P b → Q b) → IfSome r P → IfSome r Q
 if_some None h p = tt
 if_some (Some b) h p = h b refl p
@@ -149,9 +146,9 @@ at_two P ts i j a b k d wi wj ne atj ati other = elim (cases_eq k j) [
 
 -- tiers of a list
 module _ {X : Type 0} where
-  -- the room moves from a tier to the one before
-  pub room_before : (ts : List (Tier X)) (i j : ℕ) (a b d e : Tier X) (x : X) → j ≡ i + 1 → HasRoom ts j → (get_or ts i d).items ≡ a.items ++ x ∷ [] → b.items ≡ x ∷ (get_or ts j e).items → a.len < a.cap → HasRoom (set (set ts i a) j b) i
-  room_before ts i j a b d e x next r ha hb spare =
+  -- the spare place moves from a tier to the one before
+  pub spare_before : (ts : List (Tier X)) (i j : ℕ) (a b d e : Tier X) (x : X) → j ≡ i + 1 → HasSpare ts j → (get_or ts i d).items ≡ a.items ++ x ∷ [] → b.items ≡ x ∷ (get_or ts j e).items → a.len < a.cap → HasSpare (set (set ts i a) j b) i
+  spare_before ts i j a b d e x next r ha hb spare =
       let within = r.within in
       let ne : i ≢ j = λ h. omega arith in
       let wi : i < length ts = omega arith in
@@ -159,24 +156,24 @@ module _ {X : Type 0} where
       let shorter = ap length ha ∙ length-append a.items (x ∷ []) in
       let longer = ap length hb in
       let full_i = r.full i d (omega arith) ne in
-      let room_j = r.room e in
+      let less_j = r.less e in
       record {
         within = omega arith;
         full = λ k c h other. at_two (λ (t : Tier X). length t.items ≡ TIER) ts i j a b k c wi within ne (λ same. (let l = r.lacks e (omega arith) in omega arith)) (λ same. absurd (other same)) (λ ni nj. r.full k c (omega arith) nj);
         some = λ k c h other. at_two (λ (t : Tier X). 0 < length t.items) ts i j a b k c wi within ne (λ same. omega arith) (λ same. absurd (other same)) (λ ni nj. r.some k c (omega arith) nj);
         most = λ k c h other. at_two (λ (t : Tier X). length t.items ≤ TIER) ts i j a b k c wi within ne (λ same. omega arith) (λ same. absurd (other same)) (λ ni nj. r.most k c (omega arith) nj);
         lacks = λ c h. at_two (λ (t : Tier X). length t.items + 1 ≡ TIER) ts i j a b i c wi within ne (λ same. absurd (ne same)) (λ same. omega arith) (λ ni nj. absurd (ni refl));
-        room = λ c. at_two (λ (t : Tier X). length t.items < TIER) ts i j a b i c wi within ne (λ same. absurd (ne same)) (λ same. omega arith) (λ ni nj. absurd (ni refl));
+        less = λ c. at_two (λ (t : Tier X). length t.items < TIER) ts i j a b i c wi within ne (λ same. absurd (ne same)) (λ same. omega arith) (λ ni nj. absurd (ni refl));
         spare = λ c. at_two (λ (t : Tier X). t.len < t.cap) ts i j a b i c wi within ne (λ same. absurd (ne same)) (λ same. spare) (λ ni nj. absurd (ni refl));
       }
 
   -- an empty tier at the end adds nothing
-  pub same_without : (ts us : List (Tier X)) (d : Tier X) → ts ≡ us ++ d ∷ [] → d.items ≡ [] → joined us ≡ joined ts
+  pub same_without : (ts us : List (Tier X)) (d : Tier X) → ts ≡ us ++ d ∷ [] → d.items ≡ [] → all_items us ≡ all_items ts
   same_without ts us d h none =
-      sym (ap (λ (vs : List (Tier X)). joined vs) h ∙ flat_map-append (λ (t : Tier X). t.items) us (d ∷ []) ∙ ap (λ xs. joined us ++ (xs ++ [])) none ∙ append-nil (joined us))
+      sym (ap (λ (vs : List (Tier X)). all_items vs) h ∙ flat_map-append (λ (t : Tier X). t.items) us (d ∷ []) ∙ ap (λ xs. all_items us ++ (xs ++ [])) none ∙ append-nil (all_items us))
 
   -- nor is it missed
-  pub tiers_without : (ts us : List (Tier X)) (d : Tier X) → ts ≡ us ++ d ∷ [] → HasRoom ts (length ts - 1) → AreTiers us
+  pub tiers_without : (ts us : List (Tier X)) (d : Tier X) → ts ≡ us ++ d ∷ [] → HasSpare ts (length ts - 1) → AreTiers us
   tiers_without ts us d h r =
       let long = ap length h ∙ length-append us (d ∷ []) in
       let keep = λ (P : Tier X → Type 0) (k : ℕ) (c : Tier X) (w : k < length us) (p : P (get_or ts k c)). subst P (ap (λ (vs : List (Tier X)). get_or vs k c) h ∙ get_or_append_left us (d ∷ []) c k w) p in
@@ -186,20 +183,20 @@ module _ {X : Type 0} where
         most = λ k c w. keep (λ (t : Tier X). length t.items ≤ TIER) k c w (r.most k c (omega arith) (λ e. omega arith));
       }
 
-  total : (ts : List (Tier X)) (i : ℕ) (d : Tier X) → length ts ≡ i + 1 → ((k : ℕ) (c : Tier X) → k < i → length (get_or ts k c).items ≡ TIER) → length (joined ts) ≡ i * TIER + length (get_or ts i d).items
+  total : (ts : List (Tier X)) (i : ℕ) (d : Tier X) → length ts ≡ i + 1 → ((k : ℕ) (c : Tier X) → k < i → length (get_or ts k c).items ≡ TIER) → length (all_items ts) ≡ i * TIER + length (get_or ts i d).items
   total ts i d last full = how_many (λ (t : Tier X). t.items) ts i (omega arith) full d last
 
-  -- the tier of a place, where there is room at the end
-  pub room_there : (ts : List (Tier X)) (place : ℕ) → HasRoom ts (length ts - 1) → place ≤ length (joined ts) → place / TIER < length ts
-  room_there [] place r h = let w = r.within in absurd (omega arith)
-  room_there (t ∷ ts) place r h =
+  -- the tier of a place, where there is a spare place at the end
+  pub spare_there : (ts : List (Tier X)) (place : ℕ) → HasSpare ts (length ts - 1) → place ≤ length (all_items ts) → place / TIER < length ts
+  spare_there [] place r h = let w = r.within in absurd (omega arith)
+  spare_there (t ∷ ts) place r h =
       let all = total (t ∷ ts) (length ts) t (omega arith) (λ k c w. r.full k c (omega arith) (λ e. omega arith)) in
-      let room = subst (λ n. length (get_or (t ∷ ts) n t).items < TIER) {x = length (t ∷ ts) - 1} {y = length ts} (omega arith) (r.room t) in
+      let less = subst (λ n. length (get_or (t ∷ ts) n t).items < TIER) {x = length (t ∷ ts) - 1} {y = length ts} (omega arith) (r.less t) in
       omega arith
 
-  -- and the place in a tier that has room
-  pub room_within : (ts : List (Tier X)) (place : ℕ) → HasRoom ts (place / TIER) → place ≤ length (joined ts) → (d : Tier X) → place % TIER ≤ length (get_or ts (place / TIER) d).items
-  room_within ts place r h d = elim (cases_lt (place / TIER + 1) (length ts)) [
+  -- and the place in a tier that has a spare one
+  pub spare_within : (ts : List (Tier X)) (place : ℕ) → HasSpare ts (place / TIER) → place ≤ length (all_items ts) → (d : Tier X) → place % TIER ≤ length (get_or ts (place / TIER) d).items
+  spare_within ts place r h d = elim (cases_lt (place / TIER + 1) (length ts)) [
     | inl before ↦ (let l = r.lacks d before in omega arith)
     | inr last ↦ (let w = r.within in
         let all = total ts (place / TIER) d (omega arith) (λ k c v. r.full k c (omega arith) (λ e. omega arith)) in
@@ -207,7 +204,7 @@ module _ {X : Type 0} where
   ]
 
   -- the tier of an item
-  pub item_tier : (ts : List (Tier X)) (place : ℕ) → AreTiers ts → place < length (joined ts) → place / TIER < length ts
+  pub item_tier : (ts : List (Tier X)) (place : ℕ) → AreTiers ts → place < length (all_items ts) → place / TIER < length ts
   item_tier [] place r h = absurd (omega arith)
   item_tier (t ∷ ts) place r h =
       let all = total (t ∷ ts) (length ts) t (omega arith) (λ k c w. r.full k c (omega arith)) in
@@ -215,7 +212,7 @@ module _ {X : Type 0} where
       omega arith
 
   -- and its place there
-  pub item_within : (ts : List (Tier X)) (place : ℕ) → AreTiers ts → place < length (joined ts) → (d : Tier X) → place % TIER < length (get_or ts (place / TIER) d).items
+  pub item_within : (ts : List (Tier X)) (place : ℕ) → AreTiers ts → place < length (all_items ts) → (d : Tier X) → place % TIER < length (get_or ts (place / TIER) d).items
   item_within ts place r h d =
       let there = item_tier ts place r h in
       elim (cases_lt (place / TIER + 1) (length ts)) [
@@ -224,7 +221,7 @@ module _ {X : Type 0} where
       ]
 
   -- no further item is in a tier
-  pub item_back : (ts : List (Tier X)) (place : ℕ) → AreTiers ts → place / TIER < length ts → (d : Tier X) → place % TIER < length (get_or ts (place / TIER) d).items → place < length (joined ts)
+  pub item_back : (ts : List (Tier X)) (place : ℕ) → AreTiers ts → place / TIER < length ts → (d : Tier X) → place % TIER < length (get_or ts (place / TIER) d).items → place < length (all_items ts)
   item_back ts place r there d h = elim (cases_lt (place / TIER + 1) (length ts)) [
     | inl before ↦ (let all = total ts (length ts - 1) d (omega arith) (λ k c w. r.full k c (omega arith)) in
         let some = r.some (length ts - 1) d (omega arith) in
@@ -232,10 +229,10 @@ module _ {X : Type 0} where
     | inr last ↦ (let all = total ts (place / TIER) d (omega arith) (λ k c v. r.full k c (omega arith)) in omega arith)
   ]
 
-  same_size : (ts : List (Tier X)) (i : ℕ) (a d : Tier X) → length a.items ≡ length (get_or ts i d).items → length (joined (set ts i a)) ≡ length (joined ts)
+  same_size : (ts : List (Tier X)) (i : ℕ) (a d : Tier X) → length a.items ≡ length (get_or ts i d).items → length (all_items (set ts i a)) ≡ length (all_items ts)
   same_size [] i a d e = refl
-  same_size (t ∷ ts) zero a d e = length-append a.items (joined ts) ∙ ap (λ n. n + length (joined ts)) e ∙ sym (length-append t.items (joined ts))
-  same_size (t ∷ ts) (suc i) a d e = length-append t.items (joined (set ts i a)) ∙ ap (λ n. length t.items + n) (same_size ts i a d e) ∙ sym (length-append t.items (joined ts))
+  same_size (t ∷ ts) zero a d e = length-append a.items (all_items ts) ∙ ap (λ n. n + length (all_items ts)) e ∙ sym (length-append t.items (all_items ts))
+  same_size (t ∷ ts) (suc i) a d e = length-append t.items (all_items (set ts i a)) ∙ ap (λ n. length t.items + n) (same_size ts i a d e) ∙ sym (length-append t.items (all_items ts))
 
   each_size : (ts : List (Tier X)) (i : ℕ) (a d : Tier X) → length a.items ≡ length (get_or ts i d).items → (k : ℕ) (c : Tier X) → k < length ts → length (get_or (set ts i a) k c).items ≡ length (get_or ts k c).items
   each_size ts i a d e k c w = elim (cases_eq k i) [
@@ -246,15 +243,15 @@ module _ {X : Type 0} where
   ]
 
   -- a tier of the same size in the place of one
-  pub kept_over : (ts : List (Tier X)) (n i : ℕ) (a d : Tier X) → IsKept ts n → length a.items ≡ length (get_or ts i d).items → IsKept (set ts i a) n
-  kept_over ts n i a d kept e =
+  pub tiers_over : (ts : List (Tier X)) (n i : ℕ) (a d : Tier X) → AreTiersOf ts n → length a.items ≡ length (get_or ts i d).items → AreTiersOf (set ts i a) n
+  tiers_over ts n i a d were e =
       let long = length-set ts i a in
       let each = each_size ts i a d e in
       record {
         sizes = record {
-          full = λ k c w. each k c (omega arith) ∙ kept.sizes.full k c (omega arith);
-          some = λ k c w. (let s = each k c (omega arith) in let h = kept.sizes.some k c (omega arith) in omega arith);
-          most = λ k c w. (let s = each k c (omega arith) in let h = kept.sizes.most k c (omega arith) in omega arith);
+          full = λ k c w. each k c (omega arith) ∙ were.sizes.full k c (omega arith);
+          some = λ k c w. (let s = each k c (omega arith) in let h = were.sizes.some k c (omega arith) in omega arith);
+          most = λ k c w. (let s = each k c (omega arith) in let h = were.sizes.most k c (omega arith) in omega arith);
         };
-        total = kept.total ∙ sym (same_size ts i a d e);
+        total = were.total ∙ sym (same_size ts i a d e);
       }

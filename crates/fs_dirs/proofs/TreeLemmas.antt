@@ -47,7 +47,7 @@ set_at m id o q x e =
       | false ↦ λ _ f. inr f
     ] refl (sym (get-insert oid_cmp_total m id o q) ∙ e)
 
--- what is kept where another object is set
+-- what stays where another object is set
 set_other : (m : FinMap oid_cmp Object) (id : Oid) (o : Object) (q : Oid) (x : Object) → map.get m q ≡ Some x → (map.get (map.insert m id o) q ≡ Some x) ⊎ ((q ≡ id) × (map.get (map.insert m id o) q ≡ Some o))
 set_other m id o q x e =
     elim (same_oid q id) as (λ b. same_oid q id ≡ b → (map.get (map.insert m id o) q ≡ Some x) ⊎ ((q ≡ id) × (map.get (map.insert m id o) q ≡ Some o))) [
@@ -78,6 +78,10 @@ tree_with_object table t tree id old o is same = record {
   dirs = λ spot at e. still_dir table.objects id old o is same spot.0 (tree.dirs spot at e);
   single = λ q several. still_no_dir table.objects id old o is same q (tree.single q several);
 }
+
+-- an object that is there becomes another one, of the same kind
+pub tree_set : {table after : NodeTable} {t : FinMap spot_cmp Oid} (id : Oid) (becomes : Object → Object) (o : Object) → IsTree table t → map.get table.objects id ≡ Some o → (becomes o).kind ≡ o.kind → after ≡ with_object table id (becomes o) → IsTree after t
+tree_set {table} {after} {t} id becomes o tree is same made = subst (λ (x : NodeTable). IsTree x t) (sym made) (tree_with_object table t tree id o (becomes o) is same)
 
 -- an object is made
 module _ (table : NodeTable) (label : Label) (o : Object) (drawn_already : (id : Oid) (x : Object) → map.get table.objects id ≡ Some x → id.n ≤ drawn table.numbers id.label) where

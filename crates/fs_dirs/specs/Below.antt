@@ -2,6 +2,7 @@
 use Rattle.std.specs.Prelude.{◌≡◌, ◌&&◌, ◌==◌, ◌≤◌, ◌-◌, ℕ, Bool, true, false, ◌⊎◌, List, [], ◌∷◌, ◌++◌, Some, cond, length, slice_get}
 use Rattle.kern_model.specs.declared.numbers.Oid.{Oid}
 use Rattle.kern_model.specs.Entries.{is_under_within}
+use Rattle.kern_model.specs.Keys.{same_oid}
 use Rattle.kern_model.specs.State.{State}
 use Rattle.fs_dirs.specs.declared.below.Below.{Below}
 use Rattle.fs_dirs.specs.declared.below.Due.{Due}
@@ -28,6 +29,10 @@ IsUnderOne s (due ∷ rest) id = IsUnderEntry s due id ⊎ IsUnderOne s rest id
 -- an object lies under an entry that is due, or the way down is given up
 abbrev pub IsUnderDue : State → Below → Oid → Type 0
 IsUnderDue s below id = (below.complete ≡ false) ⊎ IsUnderOne s below.due.items id
+
+-- each other object that lies under an object lies under an entry that is due, or the way down is given up
+abbrev pub HasAllDue : State → Oid → Below → Type 0
+HasAllDue s top below = (id : Oid) → LiesUnder s id top → same_oid id top ≡ false → IsUnderDue s below id
 
 -- the directories with one more, of which so many entries are due, if any
 abbrev pub with_due : List Due → Oid → ℕ → List Due

@@ -12,7 +12,8 @@ use Rattle.kern_model.specs.Entries.{link_count}
 use Rattle.kern_model.specs.Keys.{Spot, oid_cmp, same_oid, spot_cmp}
 use Rattle.kern_model.specs.Maps.{count_entries, get_or, select, where_key}
 use Rattle.kern_model.specs.State.{State}
-use Rattle.fs_nodes.specs.Rows.{Rows, item_at, items_in}
+use Rattle.kern_model.specs.ByNumber.{by_oid}
+use Rattle.kern_model.specs.LabelLists.{Lists, item_at, items_in}
 use Rattle.fs_dirs.specs.Directory.{name_cmp}
 use Rattle.fs_dirs.specs.declared.spots.SpotRef.{SpotRef}
 
@@ -26,13 +27,13 @@ spot_of s = (s.dir.now, s.name.now)
 abbrev pub Contents : Type 0
 Contents = FinMap name_cmp Oid
 
--- what the directory with a number contains; nothing where none is kept
+-- what the directory with a number contains; nothing where there is none
 abbrev pub contents_of : FinMap oid_cmp Contents → Oid → Contents
 contents_of dirs dir = get_or dirs dir table.empty
 
 -- what each number has as a directory, by the lists of the labels
-abbrev pub dirs_in : Rows Contents → FinMap oid_cmp Contents
-dirs_in rows = items_in (select (where_key (λ _. true) (map Some)) rows)
+abbrev pub dirs_in : Lists Contents → FinMap oid_cmp Contents
+dirs_in lists = by_oid (items_in (select (where_key (λ _. true) (map Some)) lists))
 
 -- the entries of a directory, at their spots
 abbrev pub at_spots : Oid × Contents → List (Spot × Oid)
@@ -76,11 +77,11 @@ AreHolders entries id dirs = (test : Oid → Bool) → count_by test dirs ≡ co
 
 -- the directories where the names of each object stand
 abbrev pub Holders : Type 0
-Holders = Rows (List Oid)
+Holders = Lists (List Oid)
 
--- those of one object; none where none are kept
+-- those of one object; none where it has none
 abbrev pub dirs_at : Holders → Oid → List Oid
-dirs_at holders id = item_at [] holders id
+dirs_at holders id = item_at [] holders (id.label, id.n)
 
 -- one of the names of an object stands in a directory
 abbrev pub IsIn : Oid → List Oid → Type 0
@@ -107,8 +108,8 @@ HasLess holders (Some id) dir less = HasMore less id dir holders
 abbrev pub HasMoved : Holders → Oid → Oid → Oid → Holders → Type 0
 HasMoved holders id from to after = (q : Oid) (test : Oid → Bool) → cond (same_oid id q && test from) 1 0 + count_by test (dirs_at after q) ≡ cond (same_oid id q && test to) 1 0 + count_by test (dirs_at holders q)
 
--- each object's names are kept, few of each, and how many entries there are
-pub record AreKept (entries : FinMap spot_cmp Oid) (holders : Holders) (total : ℕ) : Type 0 where
+-- the index of the names: each object's directories, few of each, and how many entries there are
+pub record AreIndexed (entries : FinMap spot_cmp Oid) (holders : Holders) (total : ℕ) : Type 0 where
   pub holders_are : (id : Oid) → AreHolders entries id (dirs_at holders id)
   pub few : (id : Oid) → name_count entries id ≤ MAX_LINKS
   pub counted : total ≡ table.len entries

@@ -1,8 +1,9 @@
 -- The tree: the objects, and the entries of the directories among them.
-use Rattle.std.specs.Prelude.{◌≡◌, ◌&&◌, Bool, ◌≤◌, ◌<◌, Some, refl}
+use Rattle.std.specs.Prelude.{◌≡◌, ◌&&◌, Bool, true, false, ◌≤◌, ◌<◌, None, Some, refl}
 use Rattle.std.specs.FinMap as map
 use Rattle.std.specs.FinMap.{FinMap}
 use Rattle.std.specs.Coded.{Coded, code_by, coded×}
+use Rattle.fs_path.specs.Name.{Name}
 use Rattle.lab_lattice.specs.Label.{bottom}
 use Rattle.kern_model.specs.declared.numbers.Oid.{Oid}
 use Rattle.kern_model.specs.declared.objects.Attr.{Attr}
@@ -10,12 +11,12 @@ use Rattle.kern_model.specs.declared.objects.Body.TheVariants as body
 use Rattle.kern_model.specs.declared.objects.Kind.TheVariants as kind
 use Rattle.kern_model.specs.declared.objects.Object.{Object}
 use Rattle.kern_model.specs.declared.limits.TheConstants.{MAX_LINKS}
-use Rattle.kern_model.specs.Entries.{is_under, link_count}
+use Rattle.kern_model.specs.Entries.{is_removed, is_under, link_count}
 use Rattle.kern_model.specs.Keys.{Spot, oid_cmp, spot_cmp}
 use Rattle.kern_model.specs.Kinds.{is_dir, object_with}
-use Rattle.kern_model.specs.State.{State, drawn, object_at, root}
+use Rattle.kern_model.specs.State.{State, drawn, look, object_at, root}
 use Rattle.kern_model.specs.Valid.{IsDir}
-use Rattle.fs_nodes.specs.Nodes.{NodeSlots, NodeTable}
+use Rattle.fs_nodes.specs.Nodes.{NodeSlots, NodeTable, with_object}
 use Rattle.fs_dirs.specs.Entries.{entries_alone, name_count}
 
 -- objects with their places, and the entries of directories
@@ -32,6 +33,22 @@ tree_code nodes entries =
 -- the state that has these objects and entries, and nothing else
 abbrev pub state_of_tree : TreeView → State
 state_of_tree t = record (entries_alone t.entries) { objects = t.nodes.table.objects; object_numbers = t.nodes.table.numbers }
+
+-- what holds of the object with a number, if there is one
+abbrev pub IfObject : TreeView → Oid → (Object → Type 0) → Type 0
+IfObject t id holds = (o : Object) → map.get t.nodes.table.objects id ≡ Some o → holds o
+
+-- a tree has the objects of another one, but for one that is set
+abbrev pub HasObject : TreeView → Oid → Object → TreeView → Type 0
+HasObject before id o after = after.nodes.table ≡ with_object before.nodes.table id o
+
+-- what holds of the object to which a name in a directory leads, if it leads to one
+abbrev pub IfEntry : TreeView → Oid → Name → (Oid → Type 0) → Type 0
+IfEntry t dir name holds = (id : Oid) → look (state_of_tree t) dir name ≡ Some id → holds id
+
+-- the tree with the entry of an object at another spot, in place of what was there
+abbrev pub with_moved : TreeView → Spot → Spot → Oid → TreeView
+with_moved t from to id = record t { entries = map.insert (map.remove t.entries from) to id }
 
 -- the root directory alone
 abbrev pub root_alone : Attr → NodeTable
@@ -68,3 +85,11 @@ pub record MayBeAdded (s : State) (id : Oid) : Type 0 where
 -- whether an object would lie under itself in a directory: it is a directory, and the other one is it or lies under it
 abbrev pub would_loop : State → Oid → Oid → Bool
 would_loop s id dir = is_dir (object_at s id).kind && is_under s dir id
+
+-- an object would not lie under itself in a directory, but that is removed
+abbrev pub MayEnterRemoved : TreeView → Oid → Oid → Type 0
+MayEnterRemoved t id dir = (would_loop (state_of_tree t) id dir ≡ false) × (is_removed (state_of_tree t) dir ≡ true)
+
+-- a name does not stand in a directory, but that is removed
+abbrev pub IsAbsentFromRemoved : TreeView → Oid → Name → Type 0
+IsAbsentFromRemoved t dir name = (look (state_of_tree t) dir name ≡ None) × (is_removed (state_of_tree t) dir ≡ true)

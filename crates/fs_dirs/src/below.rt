@@ -1,8 +1,6 @@
 // The way down from an object.
-ghost use Rattle.std.specs.Prelude.{◌≡◌, OnErr, OnOk, false};
-ghost use Rattle.kern_model.specs.declared.numbers.Oid.{Oid as Number};
-ghost use Rattle.kern_model.specs.Keys.{same_oid};
-ghost use Rattle.fs_dirs.specs.Below.{IsUnderDue, LiesUnder, is_over, with_due};
+ghost use Rattle.std.specs.Prelude.{◌≡◌, OnErr, OnOk};
+ghost use Rattle.fs_dirs.specs.Below.{HasAllDue, IsUnderDue, is_over, with_due};
 ghost use Rattle.fs_dirs.specs.Entries.{entries_alone};
 
 use crate::entries::Entries;
@@ -29,7 +27,7 @@ pub struct Below {
 impl Below {
     /// The way down from an object. Each of its entries is due.
     pub fn new(alloc: Global, top: &Oid, entries: &Entries) -> Self
-        ensures { (id : Number) → LiesUnder (entries_alone entries.now) id top.now → same_oid id top.now ≡ false → IsUnderDue (entries_alone entries.now) result id }
+        ensures { HasAllDue (entries_alone entries.now) top.now result }
     {
         let mut below = Below {
             due: Vec::new(alloc),

@@ -1,7 +1,7 @@
 // What each directory contains.
 ghost use Rattle.std.specs.Prelude.{◌≡◌, ◌<◌, [], ℕ, IfOk, OnErr, OnOk, get_or, length, option_copied, slice_get, unwrap_or};
 ghost use Rattle.std.specs.FinMap as map;
-ghost use Rattle.fs_nodes.specs.Rows.{IsSet};
+ghost use Rattle.kern_model.specs.LabelLists.{IsSet};
 ghost use Rattle.fs_dirs.specs.Directory.{TakesFewSteps};
 ghost use Rattle.fs_dirs.specs.Entries.{contents_of, entries_of};
 
@@ -14,11 +14,11 @@ use std::sync::ledger::Ledger;
 
 /// What the directories of one label contain, by the counts of their draws. What is no directory stands there as one without names.
 #[derive(Drop)]
-struct Row {
-    kept: Vec<Directory>,
+struct DirectoryList {
+    directories: Vec<Directory>,
 }
 
-impl Model for Row {
+impl Model for DirectoryList {
     ghost use Rattle.std.specs.Prelude.{List};
     ghost use Rattle.std.specs.FinMap as map;
     ghost use Rattle.std.specs.Coded.{codes, coded_list};
@@ -29,16 +29,16 @@ impl Model for Row {
 
     ghost coded = { coded_list (map.code (Prim.hlevel codes) (Prim.hlevel (codes, label_code))) };
 
-    ghost view = { λ r. r.kept.items };
+    ghost view = { λ l. l.directories.items };
 }
 
-impl Row {
+impl DirectoryList {
     /// No directory.
     fn new(alloc: Global) -> Self
         ensures { result ≡ [] }
     {
-        Row {
-            kept: Vec::new(alloc),
+        DirectoryList {
+            directories: Vec::new(alloc),
         }
     }
 
@@ -46,7 +46,7 @@ impl Row {
     fn get(&self, n: u16) -> Option<&Directory>
         ensures { unwrap_or (option_copied result) map.empty ≡ get_or self.now n map.empty }
     {
-        self.kept.get(n as usize)
+        self.directories.get(n as usize)
     }
 
     /// Makes a place for a count.
@@ -54,8 +54,8 @@ impl Row {
         ensures ok { OnOk result (n < length self.new) }
         ensures same { (m : ℕ) → get_or self.new m map.empty ≡ get_or self.old m map.empty }
     {
-        while self.kept.len() <= n as usize {
-            self.kept.push(Directory::new(alloc))?;
+        while self.directories.len() <= n as usize {
+            self.directories.push(Directory::new(alloc))?;
         }
         Ok(())
     }
@@ -66,7 +66,7 @@ impl Row {
         ensures err { OnErr result ((m : ℕ) → get_or self.new m map.empty ≡ get_or self.old m map.empty) }
     {
         self.reach(alloc, n)?;
-        self.kept[n as usize].insert(name, id)
+        self.directories[n as usize].insert(name, id)
     }
 
     /// Removes a name from the directory at a count, if it is there, and returns the object to which it led.
@@ -75,10 +75,10 @@ impl Row {
         ensures removed { IsSet map.empty self.old n (map.remove (get_or self.old n map.empty) name.now) self.new }
     {
         let place = n as usize;
-        if place >= self.kept.len() {
+        if place >= self.directories.len() {
             return None;
         }
-        self.kept[place].remove(name)
+        self.directories[place].remove(name)
     }
 }
 
@@ -87,7 +87,7 @@ impl Row {
 pub struct Dirs {
     alloc: Global,
     // The numbers of a label are drawn in turn, so that each list is not much longer than there are objects.
-    kept: LabelMap<Row>,
+    by_label: LabelMap<DirectoryList>,
 }
 
 impl Model for Dirs {
@@ -103,7 +103,7 @@ impl Model for Dirs {
 
     ghost coded = { map.code (Prim.hlevel (codes, label_code)) (map.code (Prim.hlevel codes) (Prim.hlevel (codes, label_code))) };
 
-    ghost view = { λ a. dirs_in a.kept };
+    ghost view = { λ a. dirs_in a.by_label };
 }
 
 impl Dirs {
@@ -113,15 +113,15 @@ impl Dirs {
     {
         Dirs {
             alloc,
-            kept: LabelMap::new(alloc),
+            by_label: LabelMap::new(alloc),
         }
     }
 
-    // A directory, if one is kept at its number.
+    // A directory, if there is one at its number.
     fn directory(&self, dir: &Oid) -> Option<&Directory>
         ensures { unwrap_or (option_copied result) map.empty ≡ contents_of self.now dir.now }
     {
-        self.kept.get(&dir.label)?.get(dir.n)
+        self.by_label.get(&dir.label)?.get(dir.n)
     }
 
     /// The object to which a name in a directory leads, if it is there. Each comparison of names is counted.
@@ -176,12 +176,12 @@ impl Dirs {
         ensures err { OnErr result (entries_of self.new ≡ entries_of self.old) }
     {
         let alloc = self.alloc;
-        if let Some(row) = self.kept.get_mut(&dir.label) {
-            return row.insert(alloc, dir.n, name, *id);
+        if let Some(list) = self.by_label.get_mut(&dir.label) {
+            return list.insert(alloc, dir.n, name, *id);
         }
-        let mut row = Row::new(alloc);
-        row.insert(alloc, dir.n, name, *id)?;
-        self.kept.insert(dir.label, row)?;
+        let mut list = DirectoryList::new(alloc);
+        list.insert(alloc, dir.n, name, *id)?;
+        self.by_label.insert(dir.label, list)?;
         Ok(())
     }
 
@@ -190,9 +190,9 @@ impl Dirs {
         ensures found { result ≡ map.get (contents_of self.old dir.now) name.now }
         ensures removed { entries_of self.new ≡ map.remove (entries_of self.old) (dir.now, name.now) }
     {
-        let Some(row) = self.kept.get_mut(&dir.label) else {
+        let Some(list) = self.by_label.get_mut(&dir.label) else {
             return None;
         };
-        row.remove(dir.n, name)
+        list.remove(dir.n, name)
     }
 }

@@ -31,7 +31,7 @@ impl Model for Entries {
     ghost use Rattle.lab_lattice.specs.Label.{label_code};
     ghost use Rattle.kern_model.specs.declared.numbers.Oid.{Oid};
     ghost use Rattle.kern_model.specs.Keys.{spot_cmp};
-    ghost use Rattle.fs_dirs.specs.Entries.{AreKept, entries_of};
+    ghost use Rattle.fs_dirs.specs.Entries.{AreIndexed, entries_of};
 
     ghost Value = { map.FinMap spot_cmp Oid };
 
@@ -39,7 +39,7 @@ impl Model for Entries {
 
     ghost view = { λ e. entries_of e.dirs };
 
-    ghost invariant = { λ e. AreKept (entries_of e.dirs) e.names e.total };
+    ghost invariant = { λ e. AreIndexed (entries_of e.dirs) e.names e.total };
 }
 
 // How many entries are left where one goes, if it is there.

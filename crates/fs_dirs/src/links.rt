@@ -2,7 +2,7 @@
 ghost use Rattle.std.specs.Prelude.{◌≡◌, ◌<◌, ◌++◌, ◌∷◌, [], ℕ, IfSome, OnErr, OnOk, get_or, length};
 ghost use Rattle.std.specs.FinMap as map;
 ghost use Rattle.kern_model.specs.declared.numbers.Oid.{Oid as Number};
-ghost use Rattle.fs_nodes.specs.Rows.{IsSet};
+ghost use Rattle.kern_model.specs.LabelLists.{IsSet};
 ghost use Rattle.fs_dirs.specs.Entries.{HasLess, HasMore, HasMoved, IsIn, IsInPlace, IsWith, dirs_at};
 
 use crate::numbers::same;
@@ -16,7 +16,7 @@ use std::marker::Model;
 #[derive(Drop)]
 pub struct Links {
     // A single directory takes no memory of its own.
-    kept: SmallVec<Oid, 1>,
+    dirs: SmallVec<Oid, 1>,
 }
 
 impl Model for Links {
@@ -29,7 +29,7 @@ impl Model for Links {
 
     ghost coded = { coded_list (Prim.hlevel (codes, label_code)) };
 
-    ghost view = { λ l. l.kept.items };
+    ghost view = { λ l. l.dirs.items };
 }
 
 // The place of a directory among others.
@@ -52,7 +52,7 @@ impl Links {
         ensures { result ≡ [] }
     {
         Links {
-            kept: SmallVec::new(alloc),
+            dirs: SmallVec::new(alloc),
         }
     }
 
@@ -60,7 +60,7 @@ impl Links {
     fn dirs(&self) -> &[Oid]
         ensures { result.now ≡ self.now }
     {
-        self.kept.as_slice()
+        self.dirs.as_slice()
     }
 
     /// Adds a name.
@@ -68,7 +68,7 @@ impl Links {
         ensures ok { OnOk result (self.new ≡ self.old ++ dir ∷ []) }
         ensures err { OnErr result (self.new ≡ self.old) }
     {
-        self.kept.push(dir)?;
+        self.dirs.push(dir)?;
         Ok(())
     }
 
@@ -77,10 +77,10 @@ impl Links {
         requires { IsIn dir.now self.old }
         ensures { IsWith self.new dir.now self.old }
     {
-        let place = place_of(&self.kept, dir);
-        self.kept.swap_remove(place);
-        if self.kept.len() == 1 {
-            self.kept.shrink_to_fit();
+        let place = place_of(&self.dirs, dir);
+        self.dirs.swap_remove(place);
+        if self.dirs.len() == 1 {
+            self.dirs.shrink_to_fit();
         }
     }
 
@@ -89,18 +89,18 @@ impl Links {
         requires { IsIn from.now self.old }
         ensures { IsInPlace self.old from.now to.now self.new }
     {
-        let place = place_of(&self.kept, from);
-        self.kept[place] = *to;
+        let place = place_of(&self.dirs, from);
+        self.dirs[place] = *to;
     }
 }
 
 /// Where the names of the objects of one label stand, by the counts of their draws.
 #[derive(Drop)]
-struct Row {
-    kept: Vec<Links>,
+struct LinkList {
+    links: Vec<Links>,
 }
 
-impl Model for Row {
+impl Model for LinkList {
     ghost use Rattle.std.specs.Prelude.{List};
     ghost use Rattle.std.specs.Coded.{codes, coded_list};
     ghost use Rattle.lab_lattice.specs.Label.{label_code};
@@ -110,16 +110,16 @@ impl Model for Row {
 
     ghost coded = { coded_list (coded_list (Prim.hlevel (codes, label_code))) };
 
-    ghost view = { λ r. r.kept.items };
+    ghost view = { λ l. l.links.items };
 }
 
-impl Row {
+impl LinkList {
     /// No name.
     fn new(alloc: Global) -> Self
         ensures { result ≡ [] }
     {
-        Row {
-            kept: Vec::new(alloc),
+        LinkList {
+            links: Vec::new(alloc),
         }
     }
 
@@ -127,7 +127,7 @@ impl Row {
     fn dirs(&self, n: u16) -> &[Oid]
         ensures { result.now ≡ get_or self.now n [] }
     {
-        match self.kept.get(n as usize) {
+        match self.links.get(n as usize) {
             Some(links) => links.dirs(),
             None => &[],
         }
@@ -138,8 +138,8 @@ impl Row {
         ensures ok { OnOk result (n < length self.new) }
         ensures same { (m : ℕ) → get_or self.new m [] ≡ get_or self.old m [] }
     {
-        while self.kept.len() <= n as usize {
-            self.kept.push(Links::new(*self.kept.allocator()))?;
+        while self.links.len() <= n as usize {
+            self.links.push(Links::new(*self.links.allocator()))?;
         }
         Ok(())
     }
@@ -150,7 +150,7 @@ impl Row {
         ensures err { OnErr result ((m : ℕ) → get_or self.new m [] ≡ get_or self.old m []) }
     {
         self.reach(n)?;
-        self.kept[n as usize].push(dir)
+        self.links[n as usize].push(dir)
     }
 
     /// Takes out one name of the object at a count, which stands in a directory.
@@ -159,7 +159,7 @@ impl Row {
         ensures taken { IsWith (get_or self.new n []) dir.now (get_or self.old n []) }
         ensures others { IsSet [] self.old n (get_or self.new n []) self.new }
     {
-        self.kept[n as usize].take_out(dir);
+        self.links[n as usize].take_out(dir);
     }
 
     /// Moves a name of the object at a count to another directory.
@@ -168,7 +168,7 @@ impl Row {
         ensures put { IsInPlace (get_or self.old n []) from.now to.now (get_or self.new n []) }
         ensures others { IsSet [] self.old n (get_or self.new n []) self.new }
     {
-        self.kept[n as usize].put_in_place(from, to);
+        self.links[n as usize].put_in_place(from, to);
     }
 }
 
@@ -177,7 +177,7 @@ impl Row {
 pub struct LinkTable {
     alloc: Global,
     // The numbers of a label are drawn in turn, so that each list has few places without a name.
-    kept: LabelMap<Row>,
+    by_label: LabelMap<LinkList>,
 }
 
 impl Model for LinkTable {
@@ -190,7 +190,7 @@ impl Model for LinkTable {
 
     ghost coded = { map.code label_code (coded_list (coded_list (Prim.hlevel (codes, label_code)))) };
 
-    ghost view = { λ a. a.kept };
+    ghost view = { λ a. a.by_label };
 }
 
 impl LinkTable {
@@ -200,7 +200,7 @@ impl LinkTable {
     {
         LinkTable {
             alloc,
-            kept: LabelMap::new(alloc),
+            by_label: LabelMap::new(alloc),
         }
     }
 
@@ -208,8 +208,8 @@ impl LinkTable {
     pub fn dirs(&self, id: &Oid) -> &[Oid]
         ensures { result.now ≡ dirs_at self.now id.now }
     {
-        match self.kept.get(&id.label) {
-            Some(row) => row.dirs(id.n),
+        match self.by_label.get(&id.label) {
+            Some(list) => list.dirs(id.n),
             None => &[],
         }
     }
@@ -219,12 +219,12 @@ impl LinkTable {
         ensures ok { OnOk result (HasMore self.old id.now dir.now self.new) }
         ensures err { OnErr result ((q : Number) → dirs_at self.new q ≡ dirs_at self.old q) }
     {
-        if let Some(row) = self.kept.get_mut(&id.label) {
-            return row.add(id.n, *dir);
+        if let Some(list) = self.by_label.get_mut(&id.label) {
+            return list.add(id.n, *dir);
         }
-        let mut row = Row::new(self.alloc);
-        row.add(id.n, *dir)?;
-        self.kept.insert(id.label, row)?;
+        let mut list = LinkList::new(self.alloc);
+        list.add(id.n, *dir)?;
+        self.by_label.insert(id.label, list)?;
         Ok(())
     }
 
@@ -233,10 +233,10 @@ impl LinkTable {
         requires { IsIn dir.now (dirs_at self.old id.now) }
         ensures { HasMore self.new id.now dir.now self.old }
     {
-        let Some(row) = self.kept.get_mut(&id.label) else {
+        let Some(list) = self.by_label.get_mut(&id.label) else {
             unreachable!();
         };
-        row.take_out(id.n, dir);
+        list.take_out(id.n, dir);
     }
 
     /// Takes the name in a directory from an object, if there is one. It takes no memory.
@@ -254,9 +254,9 @@ impl LinkTable {
         requires { IsIn from.now (dirs_at self.old id.now) }
         ensures { HasMoved self.old id.now from.now to.now self.new }
     {
-        let Some(row) = self.kept.get_mut(&id.label) else {
+        let Some(list) = self.by_label.get_mut(&id.label) else {
             unreachable!();
         };
-        row.put_in_place(id.n, from, to);
+        list.put_in_place(id.n, from, to);
     }
 }

@@ -40,7 +40,7 @@ impl SpotRef<'_> {
 /// Where entries lead that stand in no directory yet.
 #[derive(Drop)]
 pub struct Spots {
-    kept: BTreeMap<Spot, Oid>,
+    entries: BTreeMap<Spot, Oid>,
 }
 
 impl Model for Spots {
@@ -54,7 +54,7 @@ impl Model for Spots {
 
     ghost coded = { map.code (Prim.hlevel (codes, label_code)) (Prim.hlevel (codes, label_code)) };
 
-    ghost view = { λ a. map.from_entries a.kept.entries };
+    ghost view = { λ a. map.from_entries a.entries.entries };
 }
 
 impl Spots {
@@ -63,7 +63,7 @@ impl Spots {
         ensures { result ≡ map.empty }
     {
         Spots {
-            kept: BTreeMap::new(alloc),
+            entries: BTreeMap::new(alloc),
         }
     }
 
@@ -71,24 +71,24 @@ impl Spots {
     pub fn get(&self, spot: &Spot) -> Option<Oid>
         ensures { result ≡ map.get self.now spot.now }
     {
-        self.kept.get(spot).copied()
+        self.entries.get(spot).copied()
     }
 
     /// Has the entry at a spot lead to an object, in place of the one to which it led.
     pub fn set(&mut self, spot: Spot, id: Oid) -> Result<(), NoMemory>
         ensures { OnOk result (self.new ≡ map.insert self.old spot id) }
     {
-        self.kept.insert(spot, id)?;
+        self.entries.insert(spot, id)?;
         Ok(())
     }
 
     // The entries in their directories. They are entered in the order of their spots, so that each is the last one of its directory.
-    pub(crate) fn entered(self, alloc: Global) -> Result<Entries, NoMemory>
+    pub(crate) fn into_entries(self, alloc: Global) -> Result<Entries, NoMemory>
         requires { (id : Number) → name_count self id ≤ MAX_LINKS }
-        ensures { IfOk result (λ entered. entered ≡ self) }
+        ensures { IfOk result (λ entries. entries ≡ self) }
     {
         let mut entries = Entries::new(alloc);
-        for (spot, id) in self.kept {
+        for (spot, id) in self.entries {
             let (dir, name) = spot;
             entries.insert(&dir, name, &id)?;
         }

@@ -2,7 +2,7 @@
 ghost use Rattle.std.specs.Prelude.{◌≡◌, ◌+◌, ◌-◌, ◌*◌, ◌/◌, ◌%◌, ◌<◌, ◌≤◌, ◌↔◌, HoldsAt, IfSome, IsSome, OnErr, OnOk, [], length, slice_index_or};
 ghost use Rattle.std.specs.List.{insert, remove};
 ghost use Rattle.std.specs.Slice.{IsItemAt};
-ghost use Rattle.fs_dirs.specs.Tiers.{AreTiers, HasRoom, joined};
+ghost use Rattle.fs_dirs.specs.Tiers.{AreTiers, HasSpare, all_items};
 
 use fs_path::NoMemory;
 use std::alloc::Global;
@@ -31,13 +31,13 @@ impl<T: Drop> Drop for Tiers<T> {
 
 impl<T> Model for Tiers<T> {
     ghost use Rattle.std.specs.Prelude.{List};
-    ghost use Rattle.fs_dirs.specs.Tiers.{IsKept, joined};
+    ghost use Rattle.fs_dirs.specs.Tiers.{AreTiersOf, all_items};
 
     ghost Value = { List T };
 
-    ghost view = { λ t. joined t.tiers.items };
+    ghost view = { λ t. all_items t.tiers.items };
 
-    ghost invariant = { λ t. IsKept t.tiers.items t.len };
+    ghost invariant = { λ t. AreTiersOf t.tiers.items t.len };
 }
 
 impl<T: Drop> Tiers<T> {
@@ -103,7 +103,7 @@ impl<T: Drop> Tiers<T> {
             return Err(NoMemory);
         };
         grow(&mut self.tiers, self.alloc)?;
-        make_room(&mut self.tiers, place / TIER);
+        bring_spare(&mut self.tiers, place / TIER);
         put(&mut self.tiers, place / TIER, place % TIER, item);
         self.len = len;
         Ok(())
@@ -123,11 +123,11 @@ impl<T: Drop> Tiers<T> {
     }
 }
 
-// Makes room for an item in the last tier, or in a new one where the last is full.
+// Reserves a place for an item in the last tier, or in a new one where the last is full.
 fn grow<T: Drop>(tiers: &mut Vec<VecDeque<T>>, alloc: Global) -> Result<(), NoMemory>
     requires { AreTiers tiers.old.items }
-    ensures same { joined tiers.new.items ≡ joined tiers.old.items }
-    ensures ok { OnOk result (HasRoom tiers.new.items (length tiers.new.items - 1)) }
+    ensures same { all_items tiers.new.items ≡ all_items tiers.old.items }
+    ensures ok { OnOk result (HasSpare tiers.new.items (length tiers.new.items - 1)) }
     ensures err { OnErr result (AreTiers tiers.new.items) }
 {
     let count = tiers.len();
@@ -143,23 +143,23 @@ fn grow<T: Drop>(tiers: &mut Vec<VecDeque<T>>, alloc: Global) -> Result<(), NoMe
     Ok(())
 }
 
-// Moves the last item of a tier to the front of the next, which has room.
+// Moves the last item of a tier to the front of the next, which has a spare place.
 fn pass_on<T>(tiers: &mut Vec<VecDeque<T>>, tier: usize)
-    requires { HasRoom tiers.old.items (tier + 1) }
-    ensures same { joined tiers.new.items ≡ joined tiers.old.items }
+    requires { HasSpare tiers.old.items (tier + 1) }
+    ensures same { all_items tiers.new.items ≡ all_items tiers.old.items }
     ensures length { length tiers.new.items ≡ length tiers.old.items }
-    ensures room { HasRoom tiers.new.items tier }
+    ensures spare { HasSpare tiers.new.items tier }
 {
     let item = tiers[tier].pop_back().unwrap();
     tiers[tier + 1].push_front_reserved(item);
 }
 
-// Moves the room from the last tier to this one.
-fn make_room<T>(tiers: &mut Vec<VecDeque<T>>, tier: usize)
+// Moves the spare place from the last tier to this one.
+fn bring_spare<T>(tiers: &mut Vec<VecDeque<T>>, tier: usize)
     requires within { tier < length tiers.old.items }
-    requires room { HasRoom tiers.old.items (length tiers.old.items - 1) }
-    ensures same { joined tiers.new.items ≡ joined tiers.old.items }
-    ensures room { HasRoom tiers.new.items tier }
+    requires spare { HasSpare tiers.old.items (length tiers.old.items - 1) }
+    ensures same { all_items tiers.new.items ≡ all_items tiers.old.items }
+    ensures spare { HasSpare tiers.new.items tier }
 {
     let mut at = tiers.len() - 1;
     while tier < at {
@@ -168,45 +168,45 @@ fn make_room<T>(tiers: &mut Vec<VecDeque<T>>, tier: usize)
     }
 }
 
-// Inserts an item into a tier that has room.
+// Inserts an item into a tier that has a spare place.
 fn put<T: Drop>(tiers: &mut Vec<VecDeque<T>>, tier: usize, place: usize, item: T)
-    requires room { HasRoom tiers.old.items tier }
+    requires spare { HasSpare tiers.old.items tier }
     requires within { HoldsAt (λ t. place ≤ length t.items) tiers.old.items tier }
-    ensures inserted { joined tiers.new.items ≡ insert (joined tiers.old.items) (tier * TIER + place) item }
+    ensures inserted { all_items tiers.new.items ≡ insert (all_items tiers.old.items) (tier * TIER + place) item }
     ensures tiers { AreTiers tiers.new.items }
 {
     let _done = tiers[tier].insert(place, item);
 }
 
-// Takes an item out of a tier, which then has room.
+// Takes an item out of a tier, which then has a spare place.
 fn take_out<T>(tiers: &mut Vec<VecDeque<T>>, tier: usize, place: usize) -> T
     requires tiers { AreTiers tiers.old.items }
     requires there { tier < length tiers.old.items }
     requires within { HoldsAt (λ t. place < length t.items) tiers.old.items tier }
-    ensures value { result ≡ slice_index_or (joined tiers.old.items) (tier * TIER + place) result }
-    ensures left { joined tiers.new.items ≡ remove (joined tiers.old.items) (tier * TIER + place) }
-    ensures room { HasRoom tiers.new.items tier }
+    ensures value { result ≡ slice_index_or (all_items tiers.old.items) (tier * TIER + place) result }
+    ensures left { all_items tiers.new.items ≡ remove (all_items tiers.old.items) (tier * TIER + place) }
+    ensures spare { HasSpare tiers.new.items tier }
 {
     tiers[tier].remove(place).unwrap()
 }
 
-// Moves the first item of the next tier to the end of this one, which has room.
+// Moves the first item of the next tier to the end of this one, which has a spare place.
 fn pull_in<T>(tiers: &mut Vec<VecDeque<T>>, tier: usize)
     requires next { tier + 1 < length tiers.old.items }
-    requires room { HasRoom tiers.old.items tier }
-    ensures same { joined tiers.new.items ≡ joined tiers.old.items }
+    requires spare { HasSpare tiers.old.items tier }
+    ensures same { all_items tiers.new.items ≡ all_items tiers.old.items }
     ensures length { length tiers.new.items ≡ length tiers.old.items }
-    ensures room { HasRoom tiers.new.items (tier + 1) }
+    ensures spare { HasSpare tiers.new.items (tier + 1) }
 {
     let item = tiers[tier + 1].pop_front().unwrap();
     tiers[tier].push_back_reserved(item);
 }
 
-// Moves the room from a tier to the last one.
+// Moves the spare place from a tier to the last one.
 fn close_up<T>(tiers: &mut Vec<VecDeque<T>>, tier: usize)
-    requires { HasRoom tiers.old.items tier }
-    ensures same { joined tiers.new.items ≡ joined tiers.old.items }
-    ensures room { HasRoom tiers.new.items (length tiers.new.items - 1) }
+    requires { HasSpare tiers.old.items tier }
+    ensures same { all_items tiers.new.items ≡ all_items tiers.old.items }
+    ensures spare { HasSpare tiers.new.items (length tiers.new.items - 1) }
 {
     let mut at = tier;
     while at + 1 < tiers.len() {
@@ -217,8 +217,8 @@ fn close_up<T>(tiers: &mut Vec<VecDeque<T>>, tier: usize)
 
 // Drops the last tier where it is empty.
 fn trim<T: Drop>(tiers: &mut Vec<VecDeque<T>>)
-    requires { HasRoom tiers.old.items (length tiers.old.items - 1) }
-    ensures same { joined tiers.new.items ≡ joined tiers.old.items }
+    requires { HasSpare tiers.old.items (length tiers.old.items - 1) }
+    ensures same { all_items tiers.new.items ≡ all_items tiers.old.items }
     ensures tiers { AreTiers tiers.new.items }
 {
     let last = tiers.len() - 1;

@@ -1,5 +1,5 @@
 // The tree.
-ghost use Rattle.std.specs.Prelude.{◌≡◌, ◌↔◌, ◌<◌, ◌≤◌, ◌+◌, true, false, [], Some, None, Err, IfOk, IsErr, IsSome, OnErr, OnOk, length};
+ghost use Rattle.std.specs.Prelude.{◌≡◌, ◌↔◌, ◌<◌, ◌≤◌, ◌+◌, true, [], None, Err, IfOk, IsErr, IsSome, OnErr, OnOk, length};
 ghost use Rattle.std.specs.List.{list_all};
 ghost use Rattle.std.specs.FinMap as map;
 ghost use Rattle.kern_model.specs.declared.numbers.Oid.{Oid as Number};
@@ -11,10 +11,9 @@ ghost use Rattle.kern_model.specs.State.{State, drawn, look, object_at, root};
 ghost use Rattle.lab_lattice.specs.Label.{dominates};
 ghost use Rattle.kern_model.specs.Valid.{IsDir, IsThere};
 ghost use Rattle.kern_model.specs.declared.limits.TheConstants.{MAX_FILE_BYTES, MAX_OBJECTS};
-ghost use Rattle.kern_model.specs.declared.objects.Object.{Object as Value};
-ghost use Rattle.fs_nodes.specs.Nodes.{IsFile, next_in, with_new, with_object};
+ghost use Rattle.fs_nodes.specs.Nodes.{IsFile, next_in, with_new};
 ghost use Rattle.fs_dirs.specs.Directory.{TakesFewSteps};
-ghost use Rattle.fs_dirs.specs.Tree.{AreEntries, MayBeAdded, root_alone, state_of_tree, would_loop};
+ghost use Rattle.fs_dirs.specs.Tree.{AreEntries, HasObject, IfEntry, IfObject, IsAbsentFromRemoved, MayBeAdded, MayEnterRemoved, root_alone, state_of_tree, with_moved, would_loop};
 
 use crate::NoMemory;
 use crate::below::Below;
@@ -162,7 +161,7 @@ impl Tree {
         ensures nodes { IfOk result (λ tree. tree.nodes ≡ nodes) }
         ensures entries { IfOk result (λ tree. tree.entries ≡ spots) }
     {
-        let entries = spots.entered(alloc)?;
+        let entries = spots.into_entries(alloc)?;
         Ok(Tree {
             alloc,
             nodes,
@@ -274,7 +273,7 @@ impl Tree {
     /// Gives an object other attributes. It takes no memory.
     pub fn set_attr(&mut self, id: &Oid, attr: Attr)
         requires { IsThere self.old.nodes.table.objects id.now }
-        ensures attr { (o : Value) → map.get self.old.nodes.table.objects id.now ≡ Some o → self.new.nodes.table ≡ with_object self.old.nodes.table id.now (record o { attr = attr }) }
+        ensures attr { IfObject self.old id.now (λ o. HasObject self.old id.now (record o { attr = attr }) self.new) }
         ensures entries { self.new.entries ≡ self.old.entries }
     {
         self.nodes.set_attr(id, attr);
@@ -283,7 +282,7 @@ impl Tree {
     /// Gives an object another label. It takes no memory.
     pub fn set_label(&mut self, id: &Oid, label: Label)
         requires { IsThere self.old.nodes.table.objects id.now }
-        ensures label { (o : Value) → map.get self.old.nodes.table.objects id.now ≡ Some o → self.new.nodes.table ≡ with_object self.old.nodes.table id.now (record o { label = label }) }
+        ensures label { IfObject self.old id.now (λ o. HasObject self.old id.now (record o { label = label }) self.new) }
         ensures entries { self.new.entries ≡ self.old.entries }
     {
         self.nodes.set_label(id, label);
@@ -292,7 +291,7 @@ impl Tree {
     /// Empties a file. It takes no memory.
     pub fn truncate(&mut self, id: &Oid)
         requires { IsFile self.old.nodes.table.objects id.now }
-        ensures bytes { (o : Value) → map.get self.old.nodes.table.objects id.now ≡ Some o → self.new.nodes.table ≡ with_object self.old.nodes.table id.now (record o { bytes = [] }) }
+        ensures bytes { IfObject self.old id.now (λ o. HasObject self.old id.now (record o { bytes = [] }) self.new) }
         ensures entries { self.new.entries ≡ self.old.entries }
     {
         self.nodes.truncate(id);
@@ -301,9 +300,9 @@ impl Tree {
     /// Writes bytes into a file from a place on.
     pub fn write_at(&mut self, id: &Oid, at: u32, bytes: &[u8]) -> Result<(), WriteError>
         requires { IsFile self.old.nodes.table.objects id.now }
-        ensures written { (o : Value) → map.get self.old.nodes.table.objects id.now ≡ Some o → OnOk result (self.new.nodes.table ≡ with_object self.old.nodes.table id.now (record o { bytes = written_over o.bytes at bytes.now })) }
-        ensures past_end { (o : Value) → map.get self.old.nodes.table.objects id.now ≡ Some o → (result ≡ Err WriteError.PastEnd) ↔ (length o.bytes < at) }
-        ensures too_big { (o : Value) → map.get self.old.nodes.table.objects id.now ≡ Some o → (result ≡ Err WriteError.TooBig) ↔ (at ≤ length o.bytes) × (MAX_FILE_BYTES < at + length bytes.now) }
+        ensures written { IfObject self.old id.now (λ o. OnOk result (HasObject self.old id.now (record o { bytes = written_over o.bytes at bytes.now }) self.new)) }
+        ensures past_end { IfObject self.old id.now (λ o. (result ≡ Err WriteError.PastEnd) ↔ (length o.bytes < at)) }
+        ensures too_big { IfObject self.old id.now (λ o. (result ≡ Err WriteError.TooBig) ↔ (at ≤ length o.bytes) × (MAX_FILE_BYTES < at + length bytes.now)) }
         ensures err { OnErr result (self.new.nodes.table ≡ self.old.nodes.table) }
         ensures entries { self.new.entries ≡ self.old.entries }
     {
@@ -316,7 +315,7 @@ impl Tree {
         requires may { MayBeAdded (state_of_tree self.old) id.now }
         ensures added { OnOk result (self.new ≡ record self.old { entries = map.insert self.old.entries (dir.now, name.now) id.now }) }
         ensures exists { (result ≡ Err AddError.Exists) ↔ IsSome (look (state_of_tree self.old) dir.now name.now) }
-        ensures removed { (result ≡ Err AddError.Removed) ↔ (look (state_of_tree self.old) dir.now name.now ≡ None) × (is_removed (state_of_tree self.old) dir.now ≡ true) }
+        ensures removed { (result ≡ Err AddError.Removed) ↔ IsAbsentFromRemoved self.old dir.now name.now }
         ensures err { OnErr result (self.new ≡ self.old) }
     {
         if self.entries.look(dir, name).is_some() {
@@ -368,10 +367,10 @@ impl Tree {
         new: &Name,
     ) -> Result<(), MoveError>
         requires { IsDir self.old.nodes.table.objects to.now }
-        ensures moved { (id : Number) → look (state_of_tree self.old) from.now old.now ≡ Some id → OnOk result (self.new ≡ record self.old { entries = map.insert (map.remove self.old.entries (from.now, old.now)) (to.now, new.now) id }) }
+        ensures moved { IfEntry self.old from.now old.now (λ id. OnOk result (self.new ≡ with_moved self.old (from.now, old.now) (to.now, new.now) id)) }
         ensures absent { (result ≡ Err MoveError.Absent) ↔ (look (state_of_tree self.old) from.now old.now ≡ None) }
-        ensures loops { (id : Number) → look (state_of_tree self.old) from.now old.now ≡ Some id → (result ≡ Err MoveError.Loop) ↔ (would_loop (state_of_tree self.old) id to.now ≡ true) }
-        ensures removed { (id : Number) → look (state_of_tree self.old) from.now old.now ≡ Some id → (result ≡ Err MoveError.Removed) ↔ (would_loop (state_of_tree self.old) id to.now ≡ false) × (is_removed (state_of_tree self.old) to.now ≡ true) }
+        ensures loops { IfEntry self.old from.now old.now (λ id. (result ≡ Err MoveError.Loop) ↔ (would_loop (state_of_tree self.old) id to.now ≡ true)) }
+        ensures removed { IfEntry self.old from.now old.now (λ id. (result ≡ Err MoveError.Removed) ↔ MayEnterRemoved self.old id to.now) }
         ensures err { OnErr result (self.new ≡ self.old) }
     {
         let Some(id) = self.entries.look(from, old) else {

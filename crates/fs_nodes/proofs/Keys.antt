@@ -9,16 +9,19 @@ use Rattle.std.proofs.lemmas.List.{length_push}
 use Rattle.lab_lattice.specs.Label.{Label, label_cmp}
 use Rattle.lab_lattice.proofs.Labels.{label_cmp_total, label_cmp_exact}
 use Rattle.kern_model.specs.declared.numbers.Oid.{Oid}
+use Rattle.kern_model.specs.ByNumber.{by_oid, oid_at}
 use Rattle.kern_model.specs.Keys.{oid_cmp}
+use Rattle.kern_model.specs.LabelLists.{IsSet, Lists, items_in, list_at}
 use Rattle.kern_model.specs.Maps as maps
 use Rattle.kern_model.specs.Maps.{select}
 use Rattle.kern_model.specs.State.{drawn}
+use Rattle.kern_model.proofs.ByNumber.{get-items_by, items_by-set}
 use Rattle.kern_model.proofs.KeyLaws.{oid_cmp_total, oid_cmp_exact}
 use Rattle.kern_model.proofs.MapLemmas.{get_or-absent, get_or-found}
+use Rattle.kern_model.proofs.NumberLaws.{oids}
 use Rattle.kern_model.proofs.Selections.{get-select_each, select-insert_each}
 use Rattle.fs_nodes.specs.Nodes.{NodeKeys, with_key}
-use Rattle.fs_nodes.specs.Rows.{IsSet, Rows, from_one, items_in, keys_in, numbers_in, row_at}
-use Rattle.fs_nodes.proofs.Rows.{get-items_in, items_in-set, number}
+use Rattle.fs_nodes.specs.Keys.{from_one, keys_in, numbers_in}
 
 -- ---- a list by counts from 1 on
 pub none_first : {X : Type 0} (n : ℕ) → get_or (from_one {X = X} []) n None ≡ None
@@ -70,38 +73,38 @@ at_each g f h m label d e none some =
       | Some x ↦ λ is. ap f (get_or-found _ label e (g x) (says ∙ ap (option_map g) is)) ∙ some x ∙ sym (ap h (get_or-found m label d x is))
     ] refl
 
-module _ (rows : Rows ℕ) where
-  abbrev counted : Rows (Option ℕ)
-  counted = select (λ _ (row : List ℕ). Some (from_one row)) rows
+module _ (lists : Lists ℕ) where
+  abbrev counted : Lists (Option ℕ)
+  counted = select (λ _ (list : List ℕ). Some (from_one list)) lists
 
-  at_count : (label : Label) (n : ℕ) → get_or (row_at counted label) n None ≡ get_or (from_one (row_at rows label)) n None
-  at_count label n = at_each from_one (λ r. get_or r n None) (λ r. get_or (from_one r) n None) rows label [] [] (sym (none_first n)) (λ _. refl)
+  at_count : (label : Label) (n : ℕ) → get_or (list_at counted label) n None ≡ get_or (from_one (list_at lists label)) n None
+  at_count label n = at_each from_one (λ r. get_or r n None) (λ r. get_or (from_one r) n None) lists label [] [] (sym (none_first n)) (λ _. refl)
 
   -- the key of an object is that of its number in the list of its label
-  get-keys_in : (q : Oid) → map.get (keys_in rows) q ≡ get_or (from_one (row_at rows q.label)) q.n None
+  get-keys_in : (q : Oid) → map.get (keys_in lists) q ≡ get_or (from_one (list_at lists q.label)) q.n None
   unfolding keys_in
-  get-keys_in q = get-items_in counted q ∙ at_count q.label q.n
+  get-keys_in q = get-items_by oid_cmp_total oid_cmp_exact oids counted q ∙ at_count q.label q.n
 
   -- the last number drawn of a label is the length of its list
-  drawn-numbers_in : (label : Label) → drawn (numbers_in rows) label ≡ length (row_at rows label)
+  drawn-numbers_in : (label : Label) → drawn (numbers_in lists) label ≡ length (list_at lists label)
   unfolding numbers_in
-  drawn-numbers_in label = at_each length (λ n. n) length rows label [] 0 refl (λ _. refl)
+  drawn-numbers_in label = at_each length (λ n. n) length lists label [] 0 refl (λ _. refl)
 
   module _ (label : Label) (key : ℕ) where
     -- a key at the end of a list is that of the next number
-    keys_in-push : keys_in (map.insert rows label (row_at rows label ++ key ∷ [])) ≡ map.insert (keys_in rows) (number label (length (row_at rows label) + 1)) key
+    keys_in-push : keys_in (map.insert lists label (list_at lists label ++ key ∷ [])) ≡ map.insert (keys_in lists) (oid_at (label, length (list_at lists label) + 1)) key
     unfolding keys_in
     keys_in-push =
-        ap items_in (select-insert_each label_cmp_total label_cmp_exact (λ _ (row : List ℕ). from_one row) rows label (row_at rows label ++ key ∷ []))
-        ∙ items_in-set counted (number label (length (row_at rows label) + 1)) (from_one (row_at rows label ++ key ∷ [])) key
-        (λ m. pushed (row_at rows label) key m ∙ ap (cond (m == length (row_at rows label) + 1) (Some key)) (sym (at_count label m)))
+        ap (λ (ls : Lists (Option ℕ)). by_oid (items_in ls)) (select-insert_each label_cmp_total label_cmp_exact (λ _ (list : List ℕ). from_one list) lists label (list_at lists label ++ key ∷ []))
+        ∙ items_by-set oid_cmp_total oid_cmp_exact oids counted (oid_at (label, length (list_at lists label) + 1)) (from_one (list_at lists label ++ key ∷ [])) key
+        (λ m. pushed (list_at lists label) key m ∙ ap (cond (m == length (list_at lists label) + 1) (Some key)) (sym (at_count label m)))
 
     -- which is then the last one drawn
-    numbers_in-push : numbers_in (map.insert rows label (row_at rows label ++ key ∷ [])) ≡ map.insert (numbers_in rows) label (length (row_at rows label) + 1)
+    numbers_in-push : numbers_in (map.insert lists label (list_at lists label ++ key ∷ [])) ≡ map.insert (numbers_in lists) label (length (list_at lists label) + 1)
     unfolding numbers_in
     numbers_in-push =
-        select-insert_each label_cmp_total label_cmp_exact (λ _ (row : List ℕ). length row) rows label (row_at rows label ++ key ∷ [])
-        ∙ ap (map.insert (numbers_in rows) label) (length_push (row_at rows label) key)
+        select-insert_each label_cmp_total label_cmp_exact (λ _ (list : List ℕ). length list) lists label (list_at lists label ++ key ∷ [])
+        ∙ ap (map.insert (numbers_in lists) label) (length_push (list_at lists label) key)
 
 -- no list, no key
 pub keys_in-empty : keys_in map.empty ≡ map.empty
@@ -113,25 +116,25 @@ keys_in-empty = same_map oid_cmp_total oid_cmp_exact _ _ (λ q.
 pub numbers_in-empty : numbers_in map.empty ≡ map.empty
 unfolding numbers_in
 numbers_in-empty = same_map label_cmp_total label_cmp_exact _ _ (λ q.
-    get-select_each label_cmp_total label_cmp_exact (λ _ (row : List ℕ). length row) map.empty q ∙ ap (option_map length) (get-empty label_cmp q) ∙ sym (get-empty label_cmp q))
+    get-select_each label_cmp_total label_cmp_exact (λ _ (list : List ℕ). length list) map.empty q ∙ ap (option_map length) (get-empty label_cmp q) ∙ sym (get-empty label_cmp q))
 
 -- ---- the keys and numbers that these lists are seen as
-abbrev pub viewed : Rows ℕ → NodeKeys
-viewed rows = record { keys = keys_in rows; numbers = numbers_in rows }
+abbrev pub viewed : Lists ℕ → NodeKeys
+viewed lists = record { keys = keys_in lists; numbers = numbers_in lists }
 
-module _ (rows : Rows ℕ) (old : NodeKeys) (view : viewed rows ≡ old) where
-  pub key_is : (id : Oid) (row : List ℕ) → row_at rows id.label ≡ row → map.get old.keys id ≡ get_or (from_one row) id.n None
-  key_is id row is = ap (λ (k : NodeKeys). map.get k.keys id) (sym view) ∙ get-keys_in rows id ∙ ap (λ (r : List ℕ). get_or (from_one r) id.n None) is
+module _ (lists : Lists ℕ) (old : NodeKeys) (view : viewed lists ≡ old) where
+  pub key_is : (id : Oid) (list : List ℕ) → list_at lists id.label ≡ list → map.get old.keys id ≡ get_or (from_one list) id.n None
+  key_is id list is = ap (λ (k : NodeKeys). map.get k.keys id) (sym view) ∙ get-keys_in lists id ∙ ap (λ (r : List ℕ). get_or (from_one r) id.n None) is
 
-  pub drawn_is : (label : Label) (row : List ℕ) → row_at rows label ≡ row → drawn old.numbers label ≡ length row
-  drawn_is label row is = ap (λ (k : NodeKeys). drawn k.numbers label) (sym view) ∙ drawn-numbers_in rows label ∙ ap length is
+  pub drawn_is : (label : Label) (list : List ℕ) → list_at lists label ≡ list → drawn old.numbers label ≡ length list
+  drawn_is label list is = ap (λ (k : NodeKeys). drawn k.numbers label) (sym view) ∙ drawn-numbers_in lists label ∙ ap length is
 
   -- a new object under the next number, its key at the end of the list of its label
-  module _ (id : Oid) (key : ℕ) (next : id.n ≡ drawn old.numbers id.label + 1) (row : List ℕ) (is : row_at rows id.label ≡ row) where
-    pub entered : (new : Rows ℕ) (new_row : List ℕ) → new ≡ map.insert rows id.label new_row → new_row ≡ row ++ key ∷ [] → viewed new ≡ with_key old id key
-    entered new new_row set added =
-        let long : length (row_at rows id.label) + 1 ≡ id.n = ap (λ n. n + 1) (sym (drawn_is id.label (row_at rows id.label) refl)) ∙ sym next in
-        let rows_are = set ∙ ap (map.insert rows id.label) (added ∙ ap (λ (r : List ℕ). r ++ key ∷ []) (sym is)) in
-        let keys = ap keys_in rows_are ∙ keys_in-push rows id.label key ∙ ap (λ n. map.insert (keys_in rows) (number id.label n) key) long in
-        let numbers = ap numbers_in rows_are ∙ numbers_in-push rows id.label key ∙ ap (map.insert (numbers_in rows) id.label) long in
+  module _ (id : Oid) (key : ℕ) (next : id.n ≡ drawn old.numbers id.label + 1) (list : List ℕ) (is : list_at lists id.label ≡ list) where
+    pub entered : (new : Lists ℕ) (new_list : List ℕ) → new ≡ map.insert lists id.label new_list → new_list ≡ list ++ key ∷ [] → viewed new ≡ with_key old id key
+    entered new new_list set added =
+        let long : length (list_at lists id.label) + 1 ≡ id.n = ap (λ n. n + 1) (sym (drawn_is id.label (list_at lists id.label) refl)) ∙ sym next in
+        let rows_are = set ∙ ap (map.insert lists id.label) (added ∙ ap (λ (r : List ℕ). r ++ key ∷ []) (sym is)) in
+        let keys = ap keys_in rows_are ∙ keys_in-push lists id.label key ∙ ap (λ n. map.insert (keys_in lists) (oid_at (id.label, n)) key) long in
+        let numbers = ap numbers_in rows_are ∙ numbers_in-push lists id.label key ∙ ap (map.insert (numbers_in lists) id.label) long in
         (λ i. record { keys = keys i; numbers = numbers i }) ∙ ap (λ (k : NodeKeys). with_key k id key) view

@@ -1,4 +1,3 @@
 pub mod Keys
 pub mod Made
 pub mod Places
-pub mod Rows

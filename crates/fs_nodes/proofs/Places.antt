@@ -1,12 +1,12 @@
 -- Objects at their places in the slab, after one of them is changed or made.
-use Rattle.std.specs.Prelude.{◌≡◌, ◌≢◌, ℕ, ◌+◌, ◌<◌, ◌==◌, Bool, true, false, Option, Some, None, IsSome, refl, cond, length, slice_set, is_some, Result, Ok, Err, OnOk, OnErr}
+use Rattle.std.specs.Prelude.{◌≡◌, ◌≢◌, ℕ, ◌+◌, ◌<◌, ◌==◌, Bool, true, false, Option, Some, None, IsSome, refl, cond, length, is_some, List}
 use Rattle.std.specs.Option.{option_and_then}
 use Rattle.std.specs.FinMap as map
 use Rattle.std.specs.FinMap.{FinMap, get-insert, same_map, len-insert, len-empty, get-empty}
 use Rattle.std.proofs.Common.{ap, sym, ◌∙◌, subst, arith, inl, inr}
 use Rattle.std.proofs.lemmas.Bool.{cases_lt, true≢false}
 use Rattle.std.proofs.lemmas.Bool.Decides.{nat_tests}
-use Rattle.std.proofs.lemmas.List.{get_or-set_same, get_or-set_other, get_or_past, set-get_or}
+use Rattle.std.proofs.lemmas.List.{get_or-set_same, get_or-set_other, get_or_past}
 use Rattle.std.proofs.lemmas.List.Sums.{sum_by-set}
 use Rattle.slab.specs.Slab.{Slab, slab_len, with_value, get}
 use Rattle.lab_lattice.specs.Label.{label_cmp}
@@ -15,8 +15,8 @@ use Rattle.kern_model.specs.declared.objects.Object.{Object}
 use Rattle.kern_model.specs.Keys.{oid_cmp, same_oid}
 use Rattle.kern_model.proofs.KeyLaws.{oid_cmp_total, oid_cmp_exact}
 use Rattle.kern_model.specs.Valid.{IsThere}
-use Rattle.kern_model.proofs.MapLemmas.{get-select, same_key, some_same, never_some}
-use Rattle.fs_nodes.specs.Nodes.{NodeTable, NodeSlots, IsPlaced, objects_in, with_object}
+use Rattle.kern_model.proofs.MapLemmas.{get-select, get_or-found, insert-same, same_key, some_same, never_some}
+use Rattle.fs_nodes.specs.Nodes.{NodeSlots, IsPlaced, objects_in, with_bytes, with_object, with_object_at}
 
 -- a table, with the slab and the keys in which it is kept
 abbrev pub at_slots : Slab Object → FinMap oid_cmp ℕ → FinMap label_cmp ℕ → NodeSlots
@@ -78,10 +78,6 @@ module _ (slots : Slab Object) (key : ℕ) (there : IsSome (get slots key)) (o :
       let one = one_of (is_some (get slots key)) there in
       omega (arith, counted, one)
 
--- setting a slot to the value that it has changes nothing
-pub same_value : (slots : Slab Object) (key : ℕ) (o : Object) → get slots key ≡ Some o → with_value slots key o ≡ slots
-same_value slots key o is = ap (λ w. record slots { slots = slice_set slots.slots key w }) (sym is) ∙ ap (λ l. record slots { slots = l }) (set-get_or slots.slots key None)
-
 -- no two objects have the same key
 pub one_key : {slots : Slab Object} {keys : FinMap oid_cmp ℕ} {numbers : FinMap label_cmp ℕ} → IsPlaced slots keys numbers → (a b : Oid) (key : ℕ) → map.get keys a ≡ Some key → map.get keys b ≡ Some key → a ≡ b
 one_key placed a b key e f = same_key oid_cmp_exact a b (placed.apart a b key e f)
@@ -126,18 +122,21 @@ module _ {slots : Slab Object} {keys : FinMap oid_cmp ℕ} {numbers : FinMap lab
       same_size : objects_in (with_value slots key o) keys ≡ map.insert (objects_in slots keys) id o → map.len (objects_in (with_value slots key o) keys) ≡ map.len (objects_in slots keys)
       same_size e = ap map.len e ∙ len-insert oid_cmp_total (objects_in slots keys) id o ∙ ap (λ b. cond b (map.len (objects_in slots keys)) (map.len (objects_in slots keys) + 1)) (ap is_some (at_key slots keys id key is) ∙ there)
 
--- the object that is found by its key is that of the table
-pub same_there : {slots : Slab Object} {keys : FinMap oid_cmp ℕ} {numbers : FinMap label_cmp ℕ} (id : Oid) (key : ℕ) → map.get keys id ≡ Some key → (x old : Object) → get slots key ≡ Some x
-    → (t : NodeSlots) → at_slots slots keys numbers ≡ t → map.get t.table.objects id ≡ Some old → x ≡ old
-same_there {slots = slots} {keys = keys} id key is x old e t view h = some_same x old (sym e ∙ sym (at_key slots keys id key is) ∙ ap (λ (n : NodeSlots). map.get n.table.objects id) view ∙ h)
+-- the table that is seen ends with the object that is changed
+pub table_changed : {slots : Slab Object} {keys : FinMap oid_cmp ℕ} {numbers : FinMap label_cmp ℕ} → IsPlaced slots keys numbers → (id : Oid) (key : ℕ) → map.get keys id ≡ Some key
+    → (t : NodeSlots) → at_slots slots keys numbers ≡ t → (o : Object) → at_slots (with_value slots key o) keys numbers ≡ with_object_at t id o
+table_changed {slots = slots} {keys = keys} {numbers = numbers} placed id key is t view o =
+    ap (λ (m : FinMap oid_cmp Object). record (at_slots (with_value slots key o) keys numbers) { table = record { objects = m; numbers = numbers } }) (object_set placed id key is o)
+    ∙ ap (λ (k : ℕ). record { table = with_object (record { objects = objects_in slots keys; numbers = numbers }) id o; slots = with_value slots k o; keys = keys }) (sym (get_or-found keys id 0 key is))
+    ∙ ap (λ (n : NodeSlots). with_object_at n id o) view
 
--- the table is the one before with the changed object
-pub table_set : {slots : Slab Object} {keys : FinMap oid_cmp ℕ} {numbers : FinMap label_cmp ℕ} → IsPlaced slots keys numbers → (id : Oid) (key : ℕ) → map.get keys id ≡ Some key → (f : Object → Object) (x old : Object) → get slots key ≡ Some x
-    → (t : NodeSlots) → at_slots slots keys numbers ≡ t → map.get t.table.objects id ≡ Some old → ◌≡◌ {A = NodeTable} (record { objects = objects_in (with_value slots key (f x)) keys; numbers = numbers }) (with_object t.table id (f old))
-table_set {slots = slots} {keys = keys} {numbers = numbers} placed id key is f x old e t view h =
-    ap (λ (m : FinMap oid_cmp Object). record { objects = m; numbers = numbers }) (object_set placed id key is (f x))
-    ∙ ap (λ (y : Object). record { objects = map.insert (objects_in slots keys) id (f y); numbers = numbers }) (same_there id key is x old e t view h)
-    ∙ ap (λ (n : NodeSlots). with_object n.table id (f old)) view
+-- the object with a number is one
+pub same_object : (objects : FinMap oid_cmp Object) (id : Oid) (x o : Object) → map.get objects id ≡ Some x → map.get objects id ≡ Some o → x ≡ o
+same_object objects id x o is there = some_same x o (sym is ∙ there)
+
+-- an object that gets the bytes that it has stays as it was
+pub same_bytes : (objects : FinMap oid_cmp Object) (id : Oid) (x : Object) → map.get objects id ≡ Some x → (bytes : List ℕ) → bytes ≡ x.bytes → with_bytes objects id x bytes ≡ objects
+same_bytes objects id x is bytes same = ap (with_bytes objects id x) same ∙ insert-same oid_cmp_total oid_cmp_exact objects id x is
 
 -- an object that is absent has no key
 pub absent_key : {slots : Slab Object} {keys : FinMap oid_cmp ℕ} {numbers : FinMap label_cmp ℕ} → IsPlaced slots keys numbers → (id : Oid) → map.get (objects_in slots keys) id ≡ None → map.get keys id ≡ None
@@ -157,13 +156,3 @@ none_placed slots numbers none = record {
   size = none ∙ sym (ap map.len (none_there slots) ∙ len-empty oid_cmp Object);
   drawn_already = λ id key e. absurd (never_some (map.get map.empty id) key (get-empty oid_cmp id) e);
 }
-
--- what holds where a call succeeds may be weakened
-pub on_ok : {X E P Q : Type 0} (r : Result X E) → (P → Q) → OnOk r P → OnOk r Q
-on_ok (Ok x) f p = f p
-on_ok (Err e) f p = tt
-
--- what holds where a call fails may be weakened
-pub on_err : {X E P Q : Type 0} (r : Result X E) → (P → Q) → OnErr r P → OnErr r Q
-on_err (Ok x) f p = tt
-on_err (Err e) f p = f p

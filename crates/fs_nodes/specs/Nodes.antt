@@ -1,16 +1,18 @@
 -- The table of objects.
-use Rattle.std.specs.Prelude.{◌≡◌, ℕ, ◌+◌, ◌≤◌, true, Some, IsSome, refl}
+use Rattle.std.specs.Prelude.{◌≡◌, ℕ, ◌+◌, ◌≤◌, ◌<◌, true, List, Option, Some, IsSome, MatchOption, length, min, refl}
 use Rattle.std.specs.FinMap as map
 use Rattle.std.specs.FinMap.{FinMap}
 use Rattle.std.specs.Coded.{Coded, code_by, coded×, coded_ℕ}
-use Rattle.slab.specs.Slab.{Slab, slab_code, slab_len, get}
+use Rattle.slab.specs.Slab.{Slab, slab_code, slab_len, get, with_value}
 use Rattle.lab_lattice.specs.Label.{Label, label_cmp}
+use Rattle.kern_model.specs.declared.limits.TheConstants.{MAX_FILE_BYTES, MAX_OBJECTS, MAX_PIPE_BYTES}
 use Rattle.kern_model.specs.declared.numbers.Oid.{Oid}
 use Rattle.kern_model.specs.declared.objects.Kind.TheVariants as kind
 use Rattle.kern_model.specs.declared.objects.Object.{Object}
+use Rattle.kern_model.specs.FileRows.{written_over}
 use Rattle.kern_model.specs.Keys.{oid_cmp, same_oid}
 use Rattle.kern_model.specs.Kinds.{is_stream}
-use Rattle.kern_model.specs.Maps.{select}
+use Rattle.kern_model.specs.Maps.{get_or, select}
 use Rattle.kern_model.specs.State.{drawn}
 
 -- the objects, and the last number drawn of each label
@@ -59,6 +61,18 @@ next_in t l = record { label = l; n = drawn t.numbers l + 1 }
 abbrev pub with_object : NodeTable → Oid → Object → NodeTable
 with_object t id o = record t { objects = map.insert t.objects id o }
 
+-- the same of a table with its slab, where the object is under the key of its number
+abbrev pub with_object_at : NodeSlots → Oid → Object → NodeSlots
+with_object_at n id o = record n { table = with_object n.table id o; slots = with_value n.slots (get_or n.keys id 0) o }
+
+-- a table where bytes are written over those of an object from an offset on
+abbrev pub with_written : NodeTable → Oid → Object → ℕ → List ℕ → NodeTable
+with_written t id o at bytes = with_object t id (record o { bytes = written_over o.bytes at bytes })
+
+-- an object with other bytes in place of the one with its number
+abbrev pub with_bytes : FinMap oid_cmp Object → Oid → Object → List ℕ → FinMap oid_cmp Object
+with_bytes objects id o bytes = map.insert objects id (record o { bytes = bytes })
+
 -- a new object under the next number of a label
 abbrev pub with_new : NodeTable → Label → Object → NodeTable
 with_new t l o = record { objects = map.insert t.objects (next_in t l) o; numbers = map.insert t.numbers l (drawn t.numbers l + 1) }
@@ -66,6 +80,30 @@ with_new t l o = record { objects = map.insert t.objects (next_in t l) o; number
 -- the key of a new object, whose number is then the last one drawn of its label
 abbrev pub with_key : NodeKeys → Oid → ℕ → NodeKeys
 with_key k id key = record { keys = map.insert k.keys id key; numbers = map.insert k.numbers id.label id.n }
+
+-- this holds of the object with a number, if there is one
+abbrev pub ForObject : FinMap oid_cmp Object → Oid → (Object → Type 0) → Type 0
+ForObject objects id P = (o : Object) → map.get objects id ≡ Some o → P o
+
+-- this holds of the bytes of the object with a number, if there is one, and of the objects where that one has other bytes
+abbrev pub ForBytes : FinMap oid_cmp Object → Oid → (List ℕ → (List ℕ → FinMap oid_cmp Object) → Type 0) → Type 0
+ForBytes objects id P = (o : Object) → map.get objects id ≡ Some o → P o.bytes (with_bytes objects id o)
+
+-- how many bytes a buffer takes
+abbrev pub fitting : List ℕ → List ℕ → ℕ
+fitting bytes buf = min (length bytes) (length buf)
+
+-- the next number of a label is given exactly where one is left
+abbrev pub IsNextIn : FinMap label_cmp ℕ → Label → Option Oid → Type 0
+IsNextIn numbers l next = MatchOption next (MAX_OBJECTS ≤ drawn numbers l) (λ id. (id ≡ record { label = l; n = drawn numbers l + 1 }) × (drawn numbers l < MAX_OBJECTS))
+
+-- written from an offset on, the bytes would make a file too big
+abbrev pub IsTooBig : List ℕ → ℕ → List ℕ → Type 0
+IsTooBig old at bytes = (at ≤ length old) × (MAX_FILE_BYTES < at + length bytes)
+
+-- the bytes fit into a pipe or FIFO, behind those that are there
+abbrev pub Fit : List ℕ → List ℕ → Type 0
+Fit bytes more = length bytes + length more ≤ MAX_PIPE_BYTES
 
 -- the number is that of a file
 pub record IsFile (objects : FinMap oid_cmp Object) (id : Oid) : Type 0 where

@@ -1,11 +1,10 @@
 // The bytes in pipes and FIFOs.
-ghost use Rattle.std.specs.Prelude.{◌≡◌, ◌≤◌, ◌+◌, ◌++◌, [], OnErr, OnOk, drop, length, min, option_copied, take};
+ghost use Rattle.std.specs.Prelude.{◌≡◌, ◌++◌, [], OnErr, OnOk, drop, option_copied, take};
 ghost use Rattle.std.specs.FinMap as map;
 ghost use Rattle.std.specs.FinMap.{FinMap};
 ghost use Rattle.kern_model.specs.Keys.{oid_cmp};
-ghost use Rattle.kern_model.specs.declared.limits.TheConstants.{MAX_PIPE_BYTES};
 ghost use Rattle.kern_model.specs.declared.objects.Object.{Object as Value};
-ghost use Rattle.fs_nodes.specs.Nodes.{IsStream};
+ghost use Rattle.fs_nodes.specs.Nodes.{Fit, ForBytes, ForObject, IsStream, fitting};
 
 use crate::NoMemory;
 use kern_model::{Object, Oid};
@@ -25,8 +24,8 @@ pub trait Buffers {
     /// Appends bytes to a pipe or FIFO.
     fn put_bytes(&mut self, id: &Oid, bytes: &[u8]) -> Result<(), NoMemory>
         requires stream { IsStream (objects self.old) id.now }
-        requires room { (o : Value) → map.get (objects self.old) id.now ≡ Some o → length o.bytes + length bytes.now ≤ MAX_PIPE_BYTES }
-        ensures put { (o : Value) → map.get (objects self.old) id.now ≡ Some o → OnOk result (objects self.new ≡ map.insert (objects self.old) id.now (record o { bytes = o.bytes ++ bytes.now })) }
+        requires room { ForObject (objects self.old) id.now (λ o. Fit o.bytes bytes.now) }
+        ensures put { ForBytes (objects self.old) id.now (λ old with_bytes. OnOk result (objects self.new ≡ with_bytes (old ++ bytes.now))) }
         ensures err { OnErr result (objects self.new ≡ objects self.old) }
         ensures rest { rest_same self.old self.new };
 
@@ -34,15 +33,15 @@ pub trait Buffers {
     /// It does not allocate.
     fn take_bytes(&mut self, id: &Oid, buf: &mut [u8]) -> usize
         requires stream { IsStream (objects self.old) id.now }
-        ensures count { (o : Value) → map.get (objects self.old) id.now ≡ Some o → result ≡ min (length o.bytes) (length buf.old) }
-        ensures taken { (o : Value) → map.get (objects self.old) id.now ≡ Some o → buf.new ≡ take result o.bytes ++ drop result buf.old }
-        ensures left { (o : Value) → map.get (objects self.old) id.now ≡ Some o → objects self.new ≡ map.insert (objects self.old) id.now (record o { bytes = drop result o.bytes }) }
+        ensures count { ForObject (objects self.old) id.now (λ o. result ≡ fitting o.bytes buf.old) }
+        ensures taken { ForObject (objects self.old) id.now (λ o. buf.new ≡ take result o.bytes ++ drop result buf.old) }
+        ensures left { ForBytes (objects self.old) id.now (λ old with_bytes. objects self.new ≡ with_bytes (drop result old)) }
         ensures rest { rest_same self.old self.new };
 
     /// Removes all bytes from a pipe or FIFO. It does not allocate.
     fn drop_bytes(&mut self, id: &Oid)
         requires stream { IsStream (objects self.old) id.now }
-        ensures dropped { (o : Value) → map.get (objects self.old) id.now ≡ Some o → objects self.new ≡ map.insert (objects self.old) id.now (record o { bytes = [] }) }
+        ensures dropped { ForBytes (objects self.old) id.now (λ _ with_bytes. objects self.new ≡ with_bytes []) }
         ensures rest { rest_same self.old self.new };
 
     ghost reflexive: { (x : Self) → rest_same x x };

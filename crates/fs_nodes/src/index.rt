@@ -1,12 +1,12 @@
 // Where objects are in the slab, and which numbers are drawn.
-ghost use Rattle.std.specs.Prelude.{◌≡◌, ◌+◌, ◌<◌, ◌≤◌, Some, None, MatchOption, OnErr, OnOk};
+ghost use Rattle.std.specs.Prelude.{◌≡◌, ◌+◌, ◌<◌, Some, OnErr, OnOk};
 ghost use Rattle.kern_model.specs.State.{drawn};
 ghost use Rattle.kern_model.specs.declared.limits.TheConstants.{MAX_OBJECTS};
 ghost use Rattle.kern_model.specs.Valid.{IsThere};
-ghost use Rattle.fs_nodes.specs.Nodes.{with_key};
+ghost use Rattle.fs_nodes.specs.Nodes.{IsNextIn, with_key};
 ghost use Rattle.std.specs.FinMap as map;
 
-use crate::row::Row;
+use crate::object_keys::ObjectKeys;
 use fs_path::NoMemory;
 use kern_model::limits::MAX_OBJECTS;
 use kern_model::{LabelMap, Oid};
@@ -18,12 +18,15 @@ use std::marker::Model;
 pub struct Index {
     alloc: Global,
     // No object is ever removed, so that each number drawn has a key.
-    rows: LabelMap<Row>,
+    by_label: LabelMap<ObjectKeys>,
 }
 
 impl Drop for Index {
     fn drop(self) {
-        let Index { alloc: _, rows: _ } = self;
+        let Index {
+            alloc: _,
+            by_label: _,
+        } = self;
     }
 }
 
@@ -31,13 +34,13 @@ impl Model for Index {
     ghost use Rattle.std.specs.Coded.{codes};
     ghost use Rattle.lab_lattice.specs.Label.{label_code};
     ghost use Rattle.fs_nodes.specs.Nodes.{NodeKeys, keys_code};
-    ghost use Rattle.fs_nodes.specs.Rows.{keys_in, numbers_in};
+    ghost use Rattle.fs_nodes.specs.Keys.{keys_in, numbers_in};
 
     ghost Value = { NodeKeys };
 
     ghost coded = { keys_code (Prim.hlevel (codes, label_code)) label_code };
 
-    ghost view = { λ x. record { keys = keys_in x.rows; numbers = numbers_in x.rows } };
+    ghost view = { λ x. record { keys = keys_in x.by_label; numbers = numbers_in x.by_label } };
 }
 
 impl Index {
@@ -48,7 +51,7 @@ impl Index {
     {
         Index {
             alloc,
-            rows: LabelMap::new(alloc),
+            by_label: LabelMap::new(alloc),
         }
     }
 
@@ -56,7 +59,7 @@ impl Index {
     pub fn get(&self, id: &Oid) -> Option<usize>
         ensures { result ≡ map.get self.now.keys id.now }
     {
-        let key = self.rows.get(&id.label)?.get(id.n)?;
+        let key = self.by_label.get(&id.label)?.get(id.n)?;
         Some(key as usize)
     }
 
@@ -72,15 +75,15 @@ impl Index {
     fn last(&self, label: &Label) -> u16
         ensures { result ≡ drawn self.now.numbers label.now }
     {
-        match self.rows.get(label) {
-            Some(row) => row.last(),
+        match self.by_label.get(label) {
+            Some(keys) => keys.last(),
             None => 0,
         }
     }
 
     /// The number of the next object at a label, or `None` where all are drawn.
     pub fn next(&self, label: &Label) -> Option<Oid>
-        ensures { MatchOption result (MAX_OBJECTS ≤ drawn self.now.numbers label.now) (λ id. (id ≡ record { label = label.now; n = drawn self.now.numbers label.now + 1 }) × (drawn self.now.numbers label.now < MAX_OBJECTS)) }
+        ensures { IsNextIn self.now.numbers label.now result }
     {
         let last = self.last(label);
         if last as usize >= MAX_OBJECTS {
@@ -102,12 +105,12 @@ impl Index {
             return Err(NoMemory);
         }
         let key = key as u32;
-        if let Some(row) = self.rows.get_mut(&id.label) {
-            return row.push(key);
+        if let Some(keys) = self.by_label.get_mut(&id.label) {
+            return keys.push(key);
         }
-        let mut row = Row::new(self.alloc);
-        row.push(key)?;
-        self.rows.insert(id.label, row)?;
+        let mut keys = ObjectKeys::new(self.alloc);
+        keys.push(key)?;
+        self.by_label.insert(id.label, keys)?;
         Ok(())
     }
 }

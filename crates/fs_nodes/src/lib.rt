@@ -4,7 +4,7 @@
 mod buffers;
 mod index;
 mod nodes;
-mod row;
+mod object_keys;
 
 pub use buffers::Buffers;
 pub use fs_path::NoMemory;

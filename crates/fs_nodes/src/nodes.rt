@@ -1,5 +1,5 @@
 // The objects.
-ghost use Rattle.std.specs.Prelude.{◌≡◌, ◌↔◌, ◌≤◌, ◌<◌, ◌+◌, ◌++◌, ℕ, [], Some, None, Err, IfOk, IsSome, OnErr, OnOk, drop, length, min, nat_lt, option_copied, take};
+ghost use Rattle.std.specs.Prelude.{◌≡◌, ◌↔◌, ◌≤◌, ◌<◌, ◌++◌, ℕ, [], Some, None, Err, IfOk, IsSome, OnErr, OnOk, drop, length, min, nat_lt, option_copied, take};
 ghost use Rattle.std.specs.Borrow.{sem};
 ghost use Rattle.std.specs.FinMap as map;
 ghost use Rattle.slab.specs.Slab.{get, slab_len};
@@ -8,11 +8,11 @@ ghost use Rattle.kern_model.specs.Kinds.{object_with};
 ghost use Rattle.kern_model.specs.State.{drawn};
 ghost use Rattle.kern_model.specs.FileRows.{written_over};
 ghost use Rattle.kern_model.specs.Valid.{IsThere};
-ghost use Rattle.kern_model.specs.declared.limits.TheConstants.{MAX_FILE_BYTES, MAX_OBJECTS};
+ghost use Rattle.kern_model.specs.declared.limits.TheConstants.{MAX_OBJECTS};
 ghost use Rattle.kern_model.specs.declared.numbers.Oid.{Oid as Number};
 ghost use Rattle.kern_model.specs.declared.objects.Object.{Object as Value};
-ghost use Rattle.fs_nodes.specs.Lending.{LendsObject};
-ghost use Rattle.fs_nodes.specs.Nodes.{IsFile, next_in, no_nodes, with_new, with_object};
+ghost use Rattle.fs_nodes.specs.Lending.{LendsSlot};
+ghost use Rattle.fs_nodes.specs.Nodes.{Fit, ForBytes, ForObject, IsFile, IsTooBig, fitting, next_in, no_nodes, with_new, with_object, with_written};
 
 use crate::NoMemory;
 use crate::buffers::Buffers;
@@ -99,6 +99,8 @@ impl Model for Nodes {
 }
 
 impl Nodes {
+    ghost use Rattle.fs_nodes.specs.Lending.{LendsObject};
+
     /// A table without objects, with no number drawn.
     pub fn new(alloc: Global) -> Result<Nodes, NoMemory>
         ensures { IfOk result (λ nodes. nodes.table ≡ no_nodes) }
@@ -136,6 +138,15 @@ impl Nodes {
         self.slots.get(key)
     }
 
+    // The object with a number, for changes to it.
+    fn object_mut(&mut self, id: &Oid) -> &mut Object
+        requires { IsThere self.old.table.objects id.now }
+        ensures* writes_back { sem 𝓛 (LendsObject self.entry id.now result) }
+        ensures value { map.get self.old.table.objects id.now ≡ Some result.now }
+    {
+        object_at(&mut self.slots, self.index.place(id))
+    }
+
     /// Whether a number of a label is left.
     pub fn can_create(&self, label: &Label) -> bool
         ensures { result ≡ nat_lt (drawn self.now.table.numbers label.now) MAX_OBJECTS }
@@ -162,45 +173,42 @@ impl Nodes {
     /// Gives an object other attributes. It does not allocate.
     pub fn set_attr(&mut self, id: &Oid, attr: Attr)
         requires { IsThere self.old.table.objects id.now }
-        ensures { (o : Value) → map.get self.old.table.objects id.now ≡ Some o → self.new.table ≡ with_object self.old.table id.now (record o { attr = attr }) }
+        ensures { ForObject self.old.table.objects id.now (λ o. self.new.table ≡ with_object self.old.table id.now (record o { attr = attr })) }
     {
-        let object = object_at(&mut self.slots, self.index.place(id));
-        object.attr = attr;
+        self.object_mut(id).attr = attr;
     }
 
     /// Gives an object another label. It does not allocate.
     pub fn set_label(&mut self, id: &Oid, label: Label)
         requires { IsThere self.old.table.objects id.now }
-        ensures { (o : Value) → map.get self.old.table.objects id.now ≡ Some o → self.new.table ≡ with_object self.old.table id.now (record o { label = label }) }
+        ensures { ForObject self.old.table.objects id.now (λ o. self.new.table ≡ with_object self.old.table id.now (record o { label = label })) }
     {
-        let object = object_at(&mut self.slots, self.index.place(id));
-        object.label = label;
+        self.object_mut(id).label = label;
     }
 
     /// Empties a file. It does not allocate.
     pub fn truncate(&mut self, id: &Oid)
         requires { IsFile self.old.table.objects id.now }
-        ensures { (o : Value) → map.get self.old.table.objects id.now ≡ Some o → self.new.table ≡ with_object self.old.table id.now (record o { bytes = [] }) }
+        ensures { ForObject self.old.table.objects id.now (λ o. self.new.table ≡ with_object self.old.table id.now (record o { bytes = [] })) }
     {
-        let object = object_at(&mut self.slots, self.index.place(id));
-        object.bytes = ByteList::new(self.alloc);
+        let empty = ByteList::new(self.alloc);
+        self.object_mut(id).bytes = empty;
     }
 
     /// Writes bytes into a file from an offset on.
     pub fn write_at(&mut self, id: &Oid, at: u32, bytes: &[u8]) -> Result<(), WriteError>
         requires { IsFile self.old.table.objects id.now }
-        ensures written { (o : Value) → map.get self.old.table.objects id.now ≡ Some o → OnOk result (self.new.table ≡ with_object self.old.table id.now (record o { bytes = written_over o.bytes at bytes.now })) }
-        ensures past_end { (o : Value) → map.get self.old.table.objects id.now ≡ Some o → (result ≡ Err WriteError.PastEnd) ↔ (length o.bytes < at) }
-        ensures too_big { (o : Value) → map.get self.old.table.objects id.now ≡ Some o → (result ≡ Err WriteError.TooBig) ↔ (at ≤ length o.bytes) × (MAX_FILE_BYTES < at + length bytes.now) }
+        ensures written { ForObject self.old.table.objects id.now (λ o. OnOk result (self.new.table ≡ with_written self.old.table id.now o at bytes.now)) }
+        ensures past_end { ForObject self.old.table.objects id.now (λ o. (result ≡ Err WriteError.PastEnd) ↔ (length o.bytes < at)) }
+        ensures too_big { ForObject self.old.table.objects id.now (λ o. (result ≡ Err WriteError.TooBig) ↔ IsTooBig o.bytes at bytes.now) }
         ensures err { OnErr result (self.new.table ≡ self.old.table) }
     {
-        let object = object_at(&mut self.slots, self.index.place(id));
-        write_over(&mut object.bytes, at, bytes)
+        write_over(&mut self.object_mut(id).bytes, at, bytes)
     }
 
     /// The bytes of an object from an offset on: `n` of them, or all that are left where fewer are.
     pub fn read_at(&self, id: &Oid, at: u32, n: u32) -> Result<ByteList, NoMemory>
-        ensures { (o : Value) → map.get self.now.table.objects id.now ≡ Some o → IfOk result (λ bytes. bytes ≡ take n (drop at o.bytes)) }
+        ensures { ForObject self.now.table.objects id.now (λ o. IfOk result (λ bytes. bytes ≡ take n (drop at o.bytes))) }
     {
         let Some(object) = self.get(id) else {
             return Ok(ByteList::new(self.alloc));
@@ -215,7 +223,7 @@ impl Nodes {
 // The object under a key of the slab that has one.
 fn object_at(slots: &mut Slab<Object>, key: usize) -> &mut Object
     requires { IsSome (get slots.old key) }
-    ensures* writes_back { sem 𝓛 (LendsObject slots.entry key result) }
+    ensures* writes_back { sem 𝓛 (LendsSlot slots.entry key result) }
     ensures value { get slots.old key ≡ Some result.now }
 {
     match slots.get_mut(key) {
@@ -228,7 +236,7 @@ fn object_at(slots: &mut Slab<Object>, key: usize) -> &mut Object
 fn write_over(old: &mut ByteList, at: u32, bytes: &[u8]) -> Result<(), WriteError>
     ensures written { OnOk result (old.new ≡ written_over old.old at bytes.now) }
     ensures past_end { (result ≡ Err WriteError.PastEnd) ↔ (length old.old < at) }
-    ensures too_big { (result ≡ Err WriteError.TooBig) ↔ (at ≤ length old.old) × (MAX_FILE_BYTES < at + length bytes.now) }
+    ensures too_big { (result ≡ Err WriteError.TooBig) ↔ IsTooBig old.old at bytes.now }
     ensures err { OnErr result (old.new ≡ old.old) }
 {
     let at = at as usize;
@@ -273,18 +281,16 @@ impl Buffers for Nodes {
     }
 
     fn put_bytes(&mut self, id: &Oid, bytes: &[u8]) -> Result<(), NoMemory> {
-        let object = object_at(&mut self.slots, self.index.place(id));
-        object.bytes.extend_from_slice(bytes)
+        self.object_mut(id).bytes.extend_from_slice(bytes)
     }
 
     fn take_bytes(&mut self, id: &Oid, buf: &mut [u8]) -> usize {
-        let object = object_at(&mut self.slots, self.index.place(id));
-        object.bytes.take_first(buf)
+        self.object_mut(id).bytes.take_first(buf)
     }
 
     fn drop_bytes(&mut self, id: &Oid) {
-        let object = object_at(&mut self.slots, self.index.place(id));
-        object.bytes = ByteList::new(self.alloc);
+        let empty = ByteList::new(self.alloc);
+        self.object_mut(id).bytes = empty;
     }
 
     ghost reflexive = { λ x. refl };

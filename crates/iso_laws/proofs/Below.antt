@@ -9,7 +9,7 @@ use Rattle.kern_model.specs.declared.numbers.Pid.{Pid}
 use Rattle.kern_model.specs.declared.world.ScriptItem.{ScriptItem}
 use Rattle.kern_model.specs.declared.world.WorldProc.{WorldProc}
 use Rattle.kern_model.specs.Arguments.{is_call, is_script}
-use Rattle.kern_model.specs.Boot.{boot, boot_process, boot_recs, furnished, started}
+use Rattle.kern_model.specs.Boot.{boot, boot_process, boot_recs, objects_loaded, started}
 use Rattle.kern_model.specs.Names.{name_of}
 use Rattle.kern_model.specs.Run.{CallRecord, run}
 use Rattle.kern_model.specs.State.{State, Process}
@@ -64,6 +64,6 @@ start_below top (w ∷ ws) s all = ((all.0.below, (all.0.below, tt)), start_belo
 -- the records of a run
 pub labels_below : LabelsBelow
 labels_below w items world args =
-    all-append (HasLabelsBelow w.top) (boot_recs w) _ (start_below w.top w.procs (furnished w) world.procs)
+    all-append (HasLabelsBelow w.top) (boot_recs w) _ (start_below w.top w.procs (objects_loaded w) world.procs)
     (subst (λ (top : Label). AllBelow top (flat_map (λ (p : CallRecord). p.recs) (run (boot w) items))) (top_boot w)
     (run_below items (boot w) (subst (λ (top : Label). is_script top items ≡ true) (sym (top_boot w)) args) (valid_boot w world)))

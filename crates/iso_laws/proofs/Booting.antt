@@ -15,7 +15,7 @@ use Rattle.kern_model.specs.declared.world.WorldObject.{WorldObject}
 use Rattle.kern_model.specs.declared.world.WorldProc.{WorldProc}
 use Rattle.kern_model.specs.Keys.{oid_cmp, pid_cmp, did_cmp}
 use Rattle.kern_model.specs.State.{State, Description, DrawObject, DrawProcess, SetObject, SetProcess, Change, changed, changed_by, drawn, look, next_object, next_process, root}
-use Rattle.kern_model.specs.Boot.{object_of, process_of, entry_for, boot_object, boot_process, boot_objects, boot_processes, nothing, furnished, boot}
+use Rattle.kern_model.specs.Boot.{object_of, process_of, entry_for, boot_object, boot_process, boot_objects, boot_processes, nothing, objects_loaded, boot}
 use Rattle.kern_model.specs.Isolation.{Kept}
 use Rattle.kern_model.proofs.MapLemmas.{never_some}
 use Rattle.iso_laws.specs.Laws.{KeptBoot, TopBoot}
@@ -74,7 +74,7 @@ module _ (l : Label) where
   kept_processes (w ∷ ws) s kept = kept_processes ws (boot_process s w) (kept_boot_process s w kept)
 
 pub kept_boot : KeptBoot
-kept_boot l w = kept_processes l w.procs (furnished w) (unopened_objects l w.objects (nothing w.bound w.top) (unopened_nothing l w.bound w.top)).kept
+kept_boot l w = kept_processes l w.procs (objects_loaded w) (unopened_objects l w.objects (nothing w.bound w.top) (unopened_nothing l w.bound w.top)).kept
 
 -- ---- what no change alters
 module _ {X : Type 0} (of : State → X) (fixed : (s : State) (c : Change) → of (changed s c) ≡ of s) where
@@ -89,7 +89,7 @@ module _ {X : Type 0} (of : State → X) (fixed : (s : State) (c : Change) → o
   fixed_processes (w ∷ ws) s = fixed_processes ws (boot_process s w) ∙ fixed_by of fixed s (DrawProcess w.label (drawn s.process_numbers w.label + 1) ∷ SetProcess (next_process s w.label) (process_of w) ∷ [])
 
   pub fixed_booted : (w : World) → of (boot w) ≡ of (nothing w.bound w.top)
-  fixed_booted w = fixed_processes w.procs (furnished w) ∙ fixed_objects w.objects (nothing w.bound w.top)
+  fixed_booted w = fixed_processes w.procs (objects_loaded w) ∙ fixed_objects w.objects (nothing w.bound w.top)
 
 pub top_boot : TopBoot
 top_boot w = fixed_booted (λ s. s.top) top-changed w

@@ -17,7 +17,7 @@ use Rattle.kern_model.specs.declared.world.WorldProc.{WorldProc}
 use Rattle.kern_model.specs.Keys.{pid_cmp, same_pid}
 use Rattle.kern_model.proofs.KeyLaws.{pid_cmp_total, pid_cmp_exact}
 use Rattle.kern_model.specs.State.{State, Process, Change, SetObject, SetProcess, DropProcess, DrawObject, DrawProcess, changed, changed_by, drawn, look, next_object, next_process, root}
-use Rattle.kern_model.specs.Boot.{object_of, process_of, entry_for, boot_object, boot_process, boot_objects, boot_processes, nothing, furnished, boot, started, boot_recs}
+use Rattle.kern_model.specs.Boot.{object_of, process_of, entry_for, boot_object, boot_process, boot_objects, boot_processes, nothing, objects_loaded, boot, started, boot_recs}
 use Rattle.kern_model.specs.Lineage.{caps_after_one, caps_after, caps_of}
 use Rattle.kern_model.proofs.MapLemmas.{each-insert, each-remove, same_key, some_same, never_some}
 
@@ -72,8 +72,8 @@ module _ (f : Pid → CapState) where
       (have_over_all (DrawObject o.label (drawn s.object_numbers o.label + 1) ∷ SetObject (next_object s o.label) (object_of o) ∷ entry_for s root o.path.names (next_object s o.label)) s f has
       (tt, (tt, entries_leave_caps s root o.path.names (next_object s o.label))))
 
-  have_furnished : (w : World) → HaveCaps (furnished w) f
-  have_furnished w = have_objects w.objects (nothing w.bound w.top) (λ who p e. absurd (never_some _ p (get-empty pid_cmp who) e))
+  have_objects_loaded : (w : World) → HaveCaps (objects_loaded w) f
+  have_objects_loaded w = have_objects w.objects (nothing w.bound w.top) (λ who p e. absurd (never_some _ p (get-empty pid_cmp who) e))
 
 have_processes : (bound : CapSet) (ws : List WorldProc) (s : State) (f : Pid → CapState) → HaveCaps s f → HaveCaps (boot_processes s ws) (caps_after bound f (started s ws))
 unfolding boot_process
@@ -83,4 +83,4 @@ have_processes bound (w ∷ ws) s f has =
 
 -- the records of the first state give the sets of its processes
 pub have_booted : (w : World) → HaveCaps (boot w) (caps_of w.bound (boot_recs w))
-have_booted w = have_processes w.bound w.procs (furnished w) (λ q. no_flags) (have_furnished (λ q. no_flags) w)
+have_booted w = have_processes w.bound w.procs (objects_loaded w) (λ q. no_flags) (have_objects_loaded (λ q. no_flags) w)

@@ -7,7 +7,7 @@ use Rattle.kern_model.specs.declared.numbers.Did.{Did}
 use Rattle.kern_model.specs.declared.numbers.Pid.{Pid}
 use Rattle.kern_model.specs.Descriptors.{Descriptor, closing, let_go, is_let_go, is_drained, emptied}
 use Rattle.kern_model.specs.Keys.{same_pid, is_pid}
-use Rattle.kern_model.specs.ProcessRows.{survives, left_by, ending_of}
+use Rattle.kern_model.specs.ProcessRows.{changes_after_end, process_after_end, ending_of}
 use Rattle.kern_model.specs.State.{State, Process, Description, Change, SetProcess, DropProcess, DropDescription}
 use Rattle.kern_model.proofs.KeyLaws.{pid_cmp_total, pid_cmp_exact, did_cmp_total, did_cmp_exact}
 use Rattle.kern_model.proofs.MapLemmas.{each-entries}
@@ -32,13 +32,13 @@ module _ (s : State) (P : Change → Type 0) (drop : (did : Did) → P (DropDesc
   each_closing goes = each_let_go s P goes (λ did d e _. (drop did, λ _. empty did d e))
 
   -- it holds of each change of an end where it also holds of dropping the process and of setting each one that it leaves
-  pub each_ending : (who : Pid) (p : Process) (how : Ending) → P (DropProcess who) → ((q : Pid) (x : Process) → map.get s.procs q ≡ Some x → P (SetProcess q (left_by who p how q x))) → AllByRecursion P (ending_of s who p how)
+  pub each_ending : (who : Pid) (p : Process) (how : Ending) → P (DropProcess who) → ((q : Pid) (x : Process) → map.get s.procs q ≡ Some x → P (SetProcess q (process_after_end who p how q x))) → AllByRecursion P (ending_of s who p how)
   unfolding ending_of
   each_ending who p how gone left =
-      let other : (e : Pid × Process) → P (SetProcess e.0 (left_by who p how e.0 e.1)) → AllByRecursion P (survives who p how e) =
-      λ e h. all_if P (not (same_pid e.0 who) && (is_pid who e.1.parent || is_pid e.0 p.parent)) (SetProcess e.0 (left_by who p how e.0 e.1) ∷ []) (h, tt) in (
+      let other : (e : Pid × Process) → P (SetProcess e.0 (process_after_end who p how e.0 e.1)) → AllByRecursion P (changes_after_end who p how e) =
+      λ e h. all_if P (not (same_pid e.0 who) && (is_pid who e.1.parent || is_pid e.0 p.parent)) (SetProcess e.0 (process_after_end who p how e.0 e.1) ∷ []) (h, tt) in (
         gone,
-        all-append P (closing s _) (flat_map (survives who p how) (map.entries s.procs)) (each_closing _)
-            (all_each (λ (e : Pid × Process). P (SetProcess e.0 (left_by who p how e.0 e.1))) P (survives who p how) other (map.entries s.procs)
-            (each-entries pid_cmp_total pid_cmp_exact (λ (q : Pid) (x : Process). P (SetProcess q (left_by who p how q x))) s.procs left)),
+        all-append P (closing s _) (flat_map (changes_after_end who p how) (map.entries s.procs)) (each_closing _)
+            (all_each (λ (e : Pid × Process). P (SetProcess e.0 (process_after_end who p how e.0 e.1))) P (changes_after_end who p how) other (map.entries s.procs)
+            (each-entries pid_cmp_total pid_cmp_exact (λ (q : Pid) (x : Process). P (SetProcess q (process_after_end who p how q x))) s.procs left)),
       )

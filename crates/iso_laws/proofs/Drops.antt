@@ -20,7 +20,7 @@ use Rattle.kern_model.specs.declared.records.Rec.TheVariants as rec
 use Rattle.kern_model.specs.declared.world.World.{World}
 use Rattle.kern_model.specs.declared.world.WorldProc.{WorldProc}
 use Rattle.kern_model.specs.declared.world.ScriptItem.{ScriptItem}
-use Rattle.kern_model.specs.Boot.{boot, boot_recs, boot_process, started, furnished}
+use Rattle.kern_model.specs.Boot.{boot, boot_recs, boot_process, started, objects_loaded}
 use Rattle.kern_model.specs.Lineage.{caps_after_one, caps_after, caps_of, all_recs}
 use Rattle.kern_model.specs.Names.{name_of}
 use Rattle.kern_model.specs.Row.{Row, Subject, judge, exercise_with}
@@ -138,7 +138,7 @@ start_drops bound (w ∷ ws) s f = (tt, start_drops bound ws (boot_process s w) 
 -- each record of `cap_set_proc` in a run makes permitted only what was permitted
 pub all_drop : (w : World) (items : List ScriptItem) → AllDrop w.bound (λ _. no_flags) (all_recs w items)
 all_drop w items =
-    drop-append w.bound (λ _. no_flags) (boot_recs w) _ (start_drops w.bound w.procs (furnished w) (λ _. no_flags))
+    drop-append w.bound (λ _. no_flags) (boot_recs w) _ (start_drops w.bound w.procs (objects_loaded w) (λ _. no_flags))
     (run_drops items (boot w) w.bound (caps_of w.bound (boot_recs w)) (fixed_booted (λ s. s.bound) bound-changed w) (have_booted w))
 
 pub drops_by_records : DropsByRecords

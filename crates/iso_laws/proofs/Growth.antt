@@ -18,7 +18,7 @@ use Rattle.kern_model.specs.Exec.{exec_caps, exec_permitted}
 use Rattle.kern_model.specs.Keys.{same_pid}
 use Rattle.kern_model.proofs.KeyLaws.{pid_cmp_exact}
 use Rattle.kern_model.specs.Lineage.{caps_after_one, caps_after, caps_of, origin, ancestor, StartedWith, FromExec}
-use Rattle.kern_model.specs.Boot.{boot, boot_recs, furnished}
+use Rattle.kern_model.specs.Boot.{boot, boot_recs, objects_loaded}
 use Rattle.kern_model.specs.Run.{CallRecord, run}
 use Rattle.kern_model.proofs.MapLemmas.{same_key}
 use Rattle.iso_laws.specs.Laws.{GrowthByRecords}
@@ -123,6 +123,6 @@ module _ (bound : CapSet) (first others : List Rec) (starts : AreStarts first) (
 pub growth_by_records : GrowthByRecords
 growth_by_records w items =
     let later : List Rec = flat_map (λ (p : CallRecord). p.recs) (run (boot w) items) in
-    let starts : AreStarts (boot_recs w) = started_once w.procs (furnished w) in
+    let starts : AreStarts (boot_recs w) = started_once w.procs (objects_loaded w) in
     let none : NoStarts later = run_no_start items (boot w) in
     record { start_once = start_once (boot_recs w) later starts none; started = all_started w items; grown = grown_since w.bound (boot_recs w) later starts none (all_drop w items) }

@@ -26,7 +26,7 @@ use Rattle.kern_model.specs.declared.world.World.{World}
 use Rattle.kern_model.specs.declared.world.ScriptItem.{ScriptItem}
 use Rattle.kern_model.specs.declared.world.WorldObject.{WorldObject}
 use Rattle.kern_model.specs.declared.world.WorldProc.{WorldProc}
-use Rattle.kern_model.specs.Boot.{object_of, process_of, entry_for, boot_object, boot_process, boot_objects, boot_processes, nothing, furnished, boot, started, boot_recs}
+use Rattle.kern_model.specs.Boot.{object_of, process_of, entry_for, boot_object, boot_process, boot_objects, boot_processes, nothing, objects_loaded, boot, started, boot_recs}
 use Rattle.kern_model.specs.Exec.{exec_caps}
 use Rattle.kern_model.specs.Keys.{pid_cmp, same_pid}
 use Rattle.kern_model.proofs.KeyLaws.{pid_cmp_total, pid_cmp_exact}
@@ -209,12 +209,12 @@ processes_started bound (w ∷ ws) s f seen all =
     subst (AllStarted (boot_processes (boot_process s w) ws) (caps_after bound (caps_after_one bound f r) (started (boot_process s w) ws))) (append_assoc seen (r ∷ []) (started (boot_process s w) ws))
     (processes_started bound ws (boot_process s w) (caps_after_one bound f r) (seen ++ r ∷ []) one)
 
-no_process : (w : World) (q : Pid) → IsThere (furnished w).procs q → ⊥
+no_process : (w : World) (q : Pid) → IsThere (objects_loaded w).procs q → ⊥
 no_process w q there = never_some _ there.value (get-empty pid_cmp q) (ap (λ m. map.get m q) (sym (objects_procs w.objects (nothing w.bound w.top))) ∙ there.is)
 
 booted_started : (w : World) → AllStarted (boot w) (caps_of w.bound (boot_recs w)) (boot_recs w)
 booted_started w =
-    processes_started w.bound w.procs (furnished w) (λ _. no_flags) [] (record { living = λ q there. absurd (no_process w q there); permitted = λ q cap h. absurd (true≢false (sym h ∙ has-no_caps cap)) })
+    processes_started w.bound w.procs (objects_loaded w) (λ _. no_flags) [] (record { living = λ q there. absurd (no_process w q there); permitted = λ q cap h. absurd (true≢false (sym h ∙ has-no_caps cap)) })
 
 -- each process that is permitted something descends from one that started
 pub all_started : (w : World) (items : List ScriptItem) (q : Pid) (cap : Cap) → has (caps_of w.bound (all_recs w items) q).p cap ≡ true → HasStarted (all_recs w items) q

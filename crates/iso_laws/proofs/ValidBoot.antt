@@ -23,7 +23,7 @@ use Rattle.kern_model.specs.declared.objects.Object.{Object}
 use Rattle.kern_model.specs.declared.world.World.{World}
 use Rattle.kern_model.specs.declared.world.WorldObject.{WorldObject}
 use Rattle.kern_model.specs.declared.world.WorldProc.{WorldProc}
-use Rattle.kern_model.specs.Boot.{object_of, process_of, entry_for, boot_object, boot_process, boot_objects, boot_processes, nothing, furnished, boot}
+use Rattle.kern_model.specs.Boot.{object_of, process_of, entry_for, boot_object, boot_process, boot_objects, boot_processes, nothing, objects_loaded, boot}
 use Rattle.kern_model.specs.Entries.{link_count}
 use Rattle.kern_model.specs.Keys.{Spot, oid_cmp, same_oid, pid_cmp, did_cmp, spot_cmp}
 use Rattle.kern_model.proofs.KeyLaws.{oid_cmp_total, oid_cmp_exact, pid_cmp_total, pid_cmp_exact, spot_cmp_total, spot_cmp_exact}
@@ -326,8 +326,8 @@ built_objects top (o ∷ os) before s built placed worlds =
     (built_objects top os (before ++ o ∷ []) (boot_object s o) (built_object top before s built o placed.0 worlds.0) placed.1 worlds.1)
 
 -- after the objects of a world were made, the state has these objects and nothing else
-built_furnished : (w : World) → IsWorld w → IsBuilt w.top w.objects (furnished w)
-built_furnished w is =
+built_objects_loaded : (w : World) → IsWorld w → IsBuilt w.top w.objects (objects_loaded w)
+built_objects_loaded w is =
     subst (λ os. AllByRecursion (IsWorldObject w.top) os → IsBuilt w.top os (boot_objects (nothing w.bound w.top) os)) (sym is.objects_are)
     (λ worlds. built_objects w.top is.others (is.first ∷ []) (boot_object (nothing w.bound w.top) is.first) (built_first w.bound w.top is.first is.root_body is.root_label worlds.0 is.no_names) is.others_placed worlds.1)
     is.objects
@@ -474,7 +474,7 @@ module _ (w : World) (is : IsWorld w) (f : State) (built : IsBuilt w.top w.objec
 
 pub valid_boot : ValidBoot
 valid_boot w is =
-    let f = furnished w in
-    let built = built_furnished w is in
+    let f = objects_loaded w in
+    let built = built_objects_loaded w is in
     let none : IsStaffed w.top [] f.procs f.process_numbers = subst (λ (m : FinMap label_cmp ℕ). IsStaffed w.top [] f.procs m) (sym built.no_process_numbers) (subst (λ (m : FinMap pid_cmp Process). IsStaffed w.top [] m map.empty) (sym built.no_procs) (staffed_none w.top)) in
     subst IsValid (sym (only_procs w.procs f)) (valid_whole w is f built (boot w).procs (boot w).process_numbers (staffed_processes w.top w.procs [] f is.procs none))

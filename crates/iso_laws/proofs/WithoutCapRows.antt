@@ -40,7 +40,7 @@ use Rattle.kern_model.specs.OpenRows.{opens, emptying, open_present, open_found,
 use Rattle.kern_model.specs.Keys.{same_oid, same_pid, same_did, is_pid}
 use Rattle.kern_model.specs.Kinds.{is_dir, is_fifo, is_file, object_with, masked}
 use Rattle.kern_model.specs.Maps.{any_entry}
-use Rattle.kern_model.specs.ProcessRows.{child_of, has_child, take_ended, survives, left_by, ending_of, set_ids, kill_with, signalled, send}
+use Rattle.kern_model.specs.ProcessRows.{child_of, has_child, take_ended, changes_after_end, process_after_end, ending_of, set_ids, kill_with, signalled, send}
 use Rattle.kern_model.specs.Row.{Row, Need, Soft, Refuse, Commit, need_if}
 use Rattle.kern_model.specs.Rules.{is_above_holders}
 use Rattle.kern_model.specs.Stat.{stat_of, stat_by, size_of, names_reported, tell_stat}
@@ -178,14 +178,14 @@ module _ (c : Cap) (s : State) (who : Pid) (p : Process) (picks : Pid → Bool) 
   without-flat_map f [] = refl
   without-flat_map f (x ∷ xs) = without-append (f x) (flat_map f xs) ∙ ap (λ cs. without (f x) ++ cs) (without-flat_map f xs)
 
-  same_survives : (target : Pid) (t : Process) (how : Ending) (q : Pid) (x : Process)
-      → without (survives target t how (q, lessened q x)) ≡ without (survives target t how (q, x))
-  same_survives target t how q x =
-      let survive : Process → Bool → List Change = λ y b. without (cond b (SetProcess q (left_by target t how q y) ∷ []) []) in
-      elim (is_caller who q) as (λ b. is_caller who q ≡ b → without (survives target t how (q, cond b (process_without c x) x)) ≡ without (survives target t how (q, x))) [
+  same_changes_after_end : (target : Pid) (t : Process) (how : Ending) (q : Pid) (x : Process)
+      → without (changes_after_end target t how (q, lessened q x)) ≡ without (changes_after_end target t how (q, x))
+  same_changes_after_end target t how q x =
+      let survive : Process → Bool → List Change = λ y b. without (cond b (SetProcess q (process_after_end target t how q y) ∷ []) []) in
+      elim (is_caller who q) as (λ b. is_caller who q ≡ b → without (changes_after_end target t how (q, cond b (process_without c x) x)) ≡ without (changes_after_end target t how (q, x))) [
         | true ↦ λ h.
             elim (not (same_pid q target) && (is_pid target x.parent || is_pid q t.parent)) as (λ b. survive (process_without c x) b ≡ survive x b) [
-              | true ↦ first_same (set_without c picks q (left_by target t how q x) (covers q h))
+              | true ↦ first_same (set_without c picks q (process_after_end target t how q x) (covers q h))
               | false ↦ refl
             ]
         | false ↦ λ _. refl
@@ -194,10 +194,10 @@ module _ (c : Cap) (s : State) (who : Pid) (p : Process) (picks : Pid → Bool) 
   same_ending : (target : Pid) (t : Process) (how : Ending) → without (ending_of s' target t how) ≡ without (ending_of s target t how)
   unfolding ending_of
   same_ending target t how =
-      let survive : Pid → Process → List Change = λ q x. without (survives target t how (q, x)) in
+      let survive : Pid → Process → List Change = λ q x. without (changes_after_end target t how (q, x)) in
       let goes : Descriptor → Bool = λ (d : Descriptor). same_pid d.who target in
-      let others = flat_map-select pid_cmp_total pid_cmp_exact (λ q x. Some (lessened q x)) survive survive s.procs (λ q x _. same_survives target t how q x) in
-      let rest : without (flat_map (survives target t how) (map.entries s'.procs)) ≡ without (flat_map (survives target t how) (map.entries s.procs)) =
+      let others = flat_map-select pid_cmp_total pid_cmp_exact (λ q x. Some (lessened q x)) survive survive s.procs (λ q x _. same_changes_after_end target t how q x) in
+      let rest : without (flat_map (changes_after_end target t how) (map.entries s'.procs)) ≡ without (flat_map (changes_after_end target t how) (map.entries s.procs)) =
       without-flat_map _ (map.entries s'.procs) ∙ others ∙ sym (without-flat_map _ (map.entries s.procs)) in
       then_same (without-append (closing s' goes) _ ∙ (λ i. without (same_closing goes i) ++ rest i) ∙ sym (without-append (closing s goes) _))
 

@@ -8,7 +8,7 @@ use Rattle.kern_model.specs.Row.{Row, Need}
 use Rattle.kern_model.specs.Rules.{on_caller}
 use Rattle.kern_model.specs.State.{State, process_at}
 use Rattle.chk_rules.specs.CheckLog.{CheckLog}
-use Rattle.chk_rules.specs.Ends.{GoesOn}
+use Rattle.chk_rules.specs.RowSteps.{GoesOn}
 use Rattle.chk_rules.specs.declared.stop.Stop.{Stop}
 use Rattle.chk_rules.proofs.Steps.{equal_check}
 use Rattle.sys_lookup.specs.Callers.{CallerView, caller_in}

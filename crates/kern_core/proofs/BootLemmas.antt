@@ -25,7 +25,7 @@ use Rattle.kern_model.specs.World.{IsWorld, IsWorldProc, procs_at}
 use Rattle.cap_bits.specs.CapSet.{is_within}
 use Rattle.std.specs.List.{AllByRecursion}
 use Rattle.kern_model.proofs.TableLemmas.{each_set_at}
-use Rattle.fd_table.specs.Rows.{AllFds}
+use Rattle.fd_table.specs.Fds.{AllFds}
 use Rattle.proc_table.specs.Procs.{ProcTable, next_in, with_new}
 use Rattle.proc_table.specs.declared.procs.ProcError.{ProcError}
 use Rattle.sys_lookup.specs.Owners.{HasOwners}

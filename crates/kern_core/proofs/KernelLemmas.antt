@@ -14,7 +14,7 @@ use Rattle.kern_model.specs.declared.records.Outcome as reported
 use Rattle.kern_model.specs.declared.world.World.{World}
 use Rattle.kern_model.specs.declared.world.WorldProc.{WorldProc}
 use Rattle.kern_model.specs.Arguments.{has_names, is_call}
-use Rattle.kern_model.specs.Boot.{boot_processes, furnished}
+use Rattle.kern_model.specs.Boot.{boot_processes, objects_loaded}
 use Rattle.kern_model.specs.Drawing.{NumbersGoOn}
 use Rattle.kern_model.specs.Names.{name_of}
 use Rattle.kern_model.specs.Refusals.{IsNamed}
@@ -80,8 +80,8 @@ where_no_error (Err x) h e = absurd (true≢false e)
 
 -- ---- the first state
 -- is valid without its processes, since it is that of the world without them
-pub valid_furnished : (w : World) → IsWorld w → IsValid (furnished w)
-valid_furnished w is = valid_boot (record w { procs = [] }) (record {
+pub valid_objects_loaded : (w : World) → IsWorld w → IsValid (objects_loaded w)
+valid_objects_loaded w is = valid_boot (record w { procs = [] }) (record {
   first = is.first;
   others = is.others;
   objects_are = is.objects_are;
@@ -95,5 +95,5 @@ valid_furnished w is = valid_boot (record w { procs = [] }) (record {
 })
 
 -- is valid, by the parts that make it
-pub valid_started : (w : World) → IsWorld w → (made started : State) (ps : List WorldProc) → made ≡ furnished w → ps ≡ w.procs → started ≡ boot_processes made ps → IsValid started
-valid_started w h made started ps furnishes procs starts = subst IsValid (sym (starts ∙ (λ i. boot_processes (furnishes i) (procs i)))) (valid_boot w h)
+pub valid_started : (w : World) → IsWorld w → (made started : State) (ps : List WorldProc) → made ≡ objects_loaded w → ps ≡ w.procs → started ≡ boot_processes made ps → IsValid started
+valid_started w h made started ps loaded_is procs starts = subst IsValid (sym (starts ∙ (λ i. boot_processes (loaded_is i) (procs i)))) (valid_boot w h)

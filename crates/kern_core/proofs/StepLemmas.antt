@@ -14,7 +14,7 @@ use Rattle.kern_model.specs.State.{State, Process}
 use Rattle.kern_model.specs.Step.{IsPlayed, step, step_by, settled}
 use Rattle.kern_model.specs.Table.{row}
 use Rattle.chk_rules.specs.CheckLog.{CheckLog, check_log, judge_from}
-use Rattle.chk_rules.specs.Ends.{EndsBy}
+use Rattle.chk_rules.specs.RowSteps.{EndsBy}
 use Rattle.chk_rules.specs.declared.stop.Stop.{Stop}
 use Rattle.chk_rules.specs.declared.stop.Stop.TheVariants as stop
 use Rattle.sys_lookup.specs.declared.effect.Effect.{Effect}

@@ -4,9 +4,12 @@ use Rattle.std.specs.List.{AllByRecursion}
 use Rattle.std.specs.FinMap.{FinMap}
 use Rattle.cap_bits.specs.CapSet.{is_within}
 use Rattle.fs_path.specs.Name.{Name}
+use Rattle.fs_path.specs.Path.{PathValue}
 use Rattle.lab_lattice.specs.Label.{Label, label_cmp}
 use Rattle.kern_model.specs.declared.limits.TheConstants.{MAX_OBJECTS, MAX_PROCS}
 use Rattle.kern_model.specs.declared.numbers.Oid.{Oid}
+use Rattle.kern_model.specs.declared.objects.Attr.{Attr}
+use Rattle.kern_model.specs.declared.objects.Body.{Body}
 use Rattle.kern_model.specs.declared.world.WorldObject.{WorldObject}
 use Rattle.kern_model.specs.declared.world.WorldProc.{WorldProc}
 use Rattle.kern_model.specs.Boot.{entry_for, nothing}
@@ -14,6 +17,10 @@ use Rattle.kern_model.specs.Keys.{Spot}
 use Rattle.kern_model.specs.State.{State, Change, SetEntry, drawn}
 use Rattle.kern_model.specs.World.{objects_at, procs_at}
 use Rattle.kern_core.specs.declared.loading.Loading.{Loading}
+
+-- an object as a world describes it
+abbrev pub world_object : PathValue → Label → Attr → Body → WorldObject
+world_object path label attr body = record { path = path; label = label; attr = attr; body = body }
 
 -- the state that is being loaded: there is no process yet
 abbrev pub state_loaded : Loading → State

@@ -4,7 +4,7 @@ ghost use Rattle.cap_bits.specs.CapSet.{is_within};
 ghost use Rattle.kern_model.specs.declared.limits.TheConstants.{MAX_PROCS};
 ghost use Rattle.kern_model.specs.declared.records.Rec.TheVariants as rec;
 ghost use Rattle.kern_model.specs.State.{drawn, next_process};
-ghost use Rattle.kern_model.specs.Boot.{boot_process, boot_processes, furnished, started};
+ghost use Rattle.kern_model.specs.Boot.{boot_process, boot_processes, objects_loaded, started};
 ghost use Rattle.kern_model.specs.World.{IsWorld};
 ghost use Rattle.kern_core.specs.Starts.{CanStart};
 
@@ -17,9 +17,9 @@ use std::alloc::Global;
 use sys_lookup::Shared;
 
 /// The state that has the objects of a world, and no process.
-pub fn furnish(alloc: Global, world: &World) -> Result<Shared, NoMemory>
+pub fn load_objects(alloc: Global, world: &World) -> Result<Shared, NoMemory>
     requires { IsWorld world.now }
-    ensures { IfOk result (λ shared. shared ≡ furnished world.now) }
+    ensures { IfOk result (λ shared. shared ≡ objects_loaded world.now) }
 {
     let mut loading = Loading::new(alloc, world.bound, world.top)?;
     loading.boot_objects(world.objects.items())?;
@@ -27,9 +27,9 @@ pub fn furnish(alloc: Global, world: &World) -> Result<Shared, NoMemory>
 }
 
 /// The state that has the objects of a world, and no process, and the processes of that world. The world is used up.
-pub fn furnish_from(alloc: Global, world: World) -> Result<(Shared, ProcList), NoMemory>
+pub fn load_objects_from(alloc: Global, world: World) -> Result<(Shared, ProcList), NoMemory>
     requires { IsWorld world }
-    ensures state { IfOk result (λ made. made.0 ≡ furnished world) }
+    ensures state { IfOk result (λ made. made.0 ≡ objects_loaded world) }
     ensures procs { IfOk result (λ made. made.1 ≡ world.procs) }
 {
     let World {

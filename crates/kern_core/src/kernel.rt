@@ -12,7 +12,7 @@ ghost use Rattle.kern_model.specs.World.{IsWorld};
 ghost use Rattle.iso_laws.specs.Unnamed.{NeedsOnlyNamed};
 ghost use Rattle.kern_core.specs.Starts.{CanStart};
 
-use crate::boot::{boot_processes, furnish, furnish_from};
+use crate::boot::{boot_processes, load_objects, load_objects_from};
 use crate::calls::play;
 use cap_bits::CapState;
 use kern_model::{Call, Calls, NoMemory, Outcome, Pid, PidList, RecList, World, WorldProc};
@@ -52,7 +52,7 @@ impl Kernel {
         ensures valid { IfOk result (λ b. IsValid (state_of b.0)) }
         ensures sound { IfOk result (λ b. has_failed b.0 ≡ false) }
     {
-        let shared = furnish(alloc, world)?;
+        let shared = load_objects(alloc, world)?;
         Kernel::start(alloc, shared, world.procs.items())
     }
 
@@ -65,7 +65,7 @@ impl Kernel {
         ensures valid { IfOk result (λ b. IsValid (state_of b.0)) }
         ensures sound { IfOk result (λ b. has_failed b.0 ≡ false) }
     {
-        let (shared, procs) = furnish_from(alloc, world)?;
+        let (shared, procs) = load_objects_from(alloc, world)?;
         Kernel::start(alloc, shared, procs.items())
     }
 

@@ -4,7 +4,7 @@ ghost use Rattle.kern_model.specs.declared.limits.TheConstants.{MAX_OBJECTS};
 ghost use Rattle.kern_model.specs.State.{drawn};
 ghost use Rattle.kern_model.specs.Boot.{boot_object, boot_objects, nothing};
 ghost use Rattle.fs_dirs.specs.Tree.{AreEntries};
-ghost use Rattle.kern_core.specs.Starts.{IsSpotOf, RoomForObjects, state_loaded};
+ghost use Rattle.kern_core.specs.Starts.{IsSpotOf, RoomForObjects, state_loaded, world_object};
 
 use crate::from_world::copy_body;
 use cap_bits::CapSet;
@@ -98,7 +98,7 @@ impl Loading {
         body: Body,
     ) -> Result<(), NoMemory>
         requires { drawn self.old.nodes.table.numbers label < MAX_OBJECTS }
-        ensures { OnOk result (state_loaded self.new ≡ boot_object (state_loaded self.old) (record { path = path.now; label = label; attr = attr; body = body })) }
+        ensures { OnOk result (state_loaded self.new ≡ boot_object (state_loaded self.old) (world_object path.now label attr body)) }
     {
         let spot = self.spot_of(root_directory(), path.components())?;
         let id = match self.nodes.create(label, attr, body) {

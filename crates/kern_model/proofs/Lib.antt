@@ -1,11 +1,15 @@
+pub mod ByNumber
 pub mod ItemLaws
 pub mod KeyLaws
 pub mod KindLemmas
 pub mod LabelMaps
+pub mod ListItems
 pub mod MapLemmas
 pub mod NamedLaws
+pub mod NumberLaws
 pub mod RowLemmas
 pub mod Selections
+pub mod SortedEntries
 pub mod StateCode
 pub mod StateLemmas
 pub mod TableLemmas

@@ -65,11 +65,11 @@ nothing bound top = record {
 }
 
 -- the objects of a world alone
-abbrev pub furnished : World → State
-furnished w = boot_objects (nothing w.bound w.top) w.objects
+abbrev pub objects_loaded : World → State
+objects_loaded w = boot_objects (nothing w.bound w.top) w.objects
 
 abbrev pub boot : World → State
-boot w = boot_processes (furnished w) w.procs
+boot w = boot_processes (objects_loaded w) w.procs
 
 abbrev pub started : State → List WorldProc → List Rec
 started s [] = []
@@ -77,4 +77,4 @@ started s (w ∷ ws) = rec.Boot (next_process s w.label) w.label w.caps ∷ star
 
 -- the records of a start: one for each process, in the order of the world's lines
 abbrev pub boot_recs : World → List Rec
-boot_recs w = started (furnished w) w.procs
+boot_recs w = started (objects_loaded w) w.procs

@@ -2,6 +2,9 @@ pub mod Maps
 pub mod LabelMap
 pub mod Lending
 pub mod Keys
+pub mod Numbers
+pub mod LabelLists
+pub mod ByNumber
 pub mod Names
 pub mod Named
 pub mod Kinds

@@ -78,18 +78,18 @@ wait_row s who p = await_child (has_child s who) who p p.ended
 -- ---- ends
 
 -- another process, when one ends: it has no parent any more where that was it, and learns of the end where it is the parent
-abbrev pub left_by : Pid → Process → Ending → Pid → Process → Process
-left_by who p how q other = record other {
+abbrev pub process_after_end : Pid → Process → Ending → Pid → Process → Process
+process_after_end who p how q other = record other {
   parent = cond (is_pid who other.parent) None other.parent;
   ended = cond (is_pid q p.parent) (other.ended ++ (who, how) ∷ []) other.ended;
 }
 
-abbrev pub survives : Pid → Process → Ending → Pid × Process → List Change
-survives who p how e = cond (not (same_pid e.0 who) && (is_pid who e.1.parent || is_pid e.0 p.parent)) (SetProcess e.0 (left_by who p how e.0 e.1) ∷ []) []
+abbrev pub changes_after_end : Pid → Process → Ending → Pid × Process → List Change
+changes_after_end who p how e = cond (not (same_pid e.0 who) && (is_pid who e.1.parent || is_pid e.0 p.parent)) (SetProcess e.0 (process_after_end who p how e.0 e.1) ∷ []) []
 
 -- a process ends: it goes, its descriptors close, its children lose their parent, and its parent learns how it ended
 unfoldable pub ending_of : State → Pid → Process → Ending → List Change
-ending_of s who p how = DropProcess who ∷ (closing s (λ (d : Descriptor). same_pid d.who who) ++ flat_map (survives who p how) (map.entries s.procs))
+ending_of s who p how = DropProcess who ∷ (closing s (λ (d : Descriptor). same_pid d.who who) ++ flat_map (changes_after_end who p how) (map.entries s.procs))
 
 -- a process ends, and the call records how
 abbrev pub kill_with : State → Pid → Process → Ending → Row

@@ -223,12 +223,12 @@ abbrev pub stat_row : State → Pid → Process → PathValue → Row
 stat_row s who p path = on_path s p path (report_stat s p)
 
 -- the caller gets another current directory
-abbrev pub stand_in : Pid → Process → Oid → Row
-stand_in who p id = Commit (SetProcess who (record p { cwd = id }) ∷ []) answer.Nothing None
+abbrev pub change_directory : Pid → Process → Oid → Row
+change_directory who p id = Commit (SetProcess who (record p { cwd = id }) ∷ []) answer.Nothing None
 
 -- the caller goes to a directory
 abbrev pub go_to : State → Pid → Process → Oid → Place → Row
-go_to s who p id place = enter s p id place (stand_in who p id)
+go_to s who p id place = enter s p id place (change_directory who p id)
 
 -- `chdir PATH`
 abbrev pub chdir_row : State → Pid → Process → PathValue → Row

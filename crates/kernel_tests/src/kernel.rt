@@ -113,9 +113,13 @@ fn booted(alloc: Global) -> Option<(Kernel, RecList)> {
 
 // The highest label of the world.
 fn top() -> Option<Label> {
-    Some(Pair {
+    let first = Pair {
         first: Level::new(3)?,
         second: Cats::empty(),
+    };
+    Some(Pair {
+        first,
+        second: bottom().second,
     })
 }
 

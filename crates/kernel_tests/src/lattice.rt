@@ -1,5 +1,5 @@
 // The order of labels at a few values.
-use lab_lattice::{Cats, Dual, Label, Lattice, Level, Pair, bottom};
+use lab_lattice::{Cats, Dual, Grade, Label, Lattice, Level, Pair, bottom};
 
 // The set of these categories, all below 64.
 fn cats(numbers: &[u8]) -> Cats {
@@ -12,11 +12,22 @@ fn cats(numbers: &[u8]) -> Cats {
     set
 }
 
-// The label with this level, 0 where there is none, and these categories.
-fn label(level: u8, categories: &[u8]) -> Label {
-    let first = Level::new(level).unwrap_or(Level::lowest());
-    let second = cats(categories);
+// The label with this level, 0 where there is none, these categories and this grade, 15 where there is none.
+fn graded(level: u8, categories: &[u8], grade: u8) -> Label {
+    let first = Pair {
+        first: Level::new(level).unwrap_or(Level::lowest()),
+        second: cats(categories),
+    };
+    let second = match Grade::new(grade) {
+        Some(inner) => Dual { inner },
+        None => bottom().second,
+    };
     Pair { first, second }
+}
+
+// The label with this level, these categories and the highest grade.
+fn label(level: u8, categories: &[u8]) -> Label {
+    graded(level, categories, 15)
 }
 
 // Whether a value lies between two others.
@@ -44,10 +55,50 @@ fn labels(rt: HostRuntime) {
 }
 
 #[test]
+fn grades(rt: HostRuntime) {
+    let (trusted, fetched) = (graded(0, &[], 15), graded(0, &[], 2));
+    assert!(rt; fetched.dominates(&trusted) && !trusted.dominates(&fetched));
+    assert!(rt; trusted.lub(&fetched) == fetched && trusted.glb(&fetched) == trusted);
+    assert!(rt; bottom() == trusted && Grade::new(16).is_none());
+}
+
+// Whether two labels are bounded and compared as in a lattice.
+fn obey_the_laws(a: &Label, b: &Label) -> bool {
+    let (above, below) = (a.lub(b), a.glb(b));
+    let bounded = above.dominates(a)
+        && above.dominates(b)
+        && a.dominates(&below)
+        && b.dominates(&below);
+    let compared = a.dominates(b) == (above == *a)
+        && a.dominates(b) == (below == *b)
+        && a.equal(b) == (a == b);
+    bounded && compared
+}
+
+#[test]
+fn laws_of_all_pairs(rt: HostRuntime) {
+    let labels = [
+        graded(0, &[], 15),
+        graded(0, &[], 14),
+        graded(0, &[1], 15),
+        graded(0, &[1], 14),
+        graded(3, &[], 15),
+        graded(3, &[], 14),
+        graded(3, &[1], 15),
+        graded(3, &[1, 2], 0),
+    ];
+    for a in labels.iter() {
+        assert!(rt; labels.iter().all(|b| obey_the_laws(a, b)));
+    }
+}
+
+#[test]
 fn labels_are_listed_by_level_and_then_by_number(rt: HostRuntime) {
     assert!(rt; label(2, &[63]) < label(3, &[]));
     assert!(rt; label(2, &[0, 1, 2]) < label(2, &[3]));
     assert!(rt; label(2, &[3]) < label(2, &[0, 3]));
+    assert!(rt; graded(2, &[3], 15) < graded(2, &[3], 14));
+    assert!(rt; graded(2, &[3], 0) < graded(2, &[0, 3], 15));
 }
 
 fn dual(inner: Label) -> Dual<Label> {

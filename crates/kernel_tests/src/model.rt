@@ -2,13 +2,17 @@
 use cap_bits::{CapSet, CapState};
 use fs_path::{ByteList, PathError};
 use kern_model::*;
-use lab_lattice::{Cats, Label, Level};
+use lab_lattice::{Cats, Label, Level, Pair, bottom};
 use std::alloc::Global;
 
 fn label(level: u8) -> Label {
-    Label {
+    let first = Pair {
         first: Level::new(level).unwrap_or(Level::lowest()),
         second: Cats::empty(),
+    };
+    Label {
+        first,
+        second: bottom().second,
     }
 }
 

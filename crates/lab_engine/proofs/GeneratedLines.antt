@@ -41,7 +41,7 @@ use Rattle.world_text.specs.Written.{bare, quoted}
 
 -- the names of the generated world
 abbrev pub policy : PolicyNames
-policy = record { levels = codes "l0" ∷ codes "l1" ∷ codes "l2" ∷ codes "l3" ∷ []; cats = codes "c0" ∷ codes "c1" ∷ [] }
+policy = record { levels = codes "l0" ∷ codes "l1" ∷ codes "l2" ∷ codes "l3" ∷ []; cats = codes "c0" ∷ codes "c1" ∷ []; grades = [] }
 
 -- ---- words and their values
 

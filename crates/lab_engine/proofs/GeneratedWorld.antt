@@ -30,7 +30,7 @@ use Rattle.lab_lattice.proofs.Labels.{dominates_bottom, dominates_itself}
 use Rattle.lab_text.specs.Names.{same_bytes}
 use Rattle.lab_text.specs.Policy.{PolicyNames, with_names, no_names, names_fault, top_of}
 use Rattle.lab_text.specs.declared.lists.NameList.TheVariants.{Levels, Categories}
-use Rattle.lab_text.specs.Text.{LabelWords, label_of as label_of_words, label_text, label_words, parse_label, places_of}
+use Rattle.lab_text.specs.Text.{LabelWords, label_of as label_of_words, label_text, label_words, labelled, grade_named, parse_label, places_of}
 use Rattle.lab_text.proofs.Parsed.{parse_text}
 use Rattle.line_text.specs.declared.fault.LineFault.{LineFault}
 use Rattle.line_text.specs.declared.fault.LineFault.TheVariants.{RootLabel, TooMany}
@@ -98,35 +98,41 @@ level_3 : Has (label_of policy (codes "l3"))
 unfolding label_words parse_label
 level_3 = known (label_of policy (codes "l3")) refl
 
+-- the name of the lowest level denotes a label
+lowest_value : Has (label_of policy (codes "l0"))
+unfolding label_words parse_label
+lowest_value = known (label_of policy (codes "l0")) refl
+
 -- the name of the lowest level alone
 abbrev lowest : PolicyNames
-lowest = record { levels = codes "l0" ∷ []; cats = [] }
+lowest = record { levels = codes "l0" ∷ []; cats = []; grades = [] }
 
--- what is made of the place of a name in a list of one name, and of no categories
-by_level : (label : Label) (make : ℕ → List ℕ → Label) (b : Bool) (cats : List (List ℕ))
-    → option_and_then (λ level. option_map (make level) (places_of [] cats)) (cond (nat_lt (cond (not b) 1 0) 1) (Some (cond (not b) 1 0)) None) ≡ Some label → make 0 [] ≡ label
-by_level label make true [] e = same_Some (make 0 []) label e
-by_level label make true (c ∷ cs) e = absurd (cc)
-by_level label make false cats e = absurd (cc)
+-- what is made of the place of a name in a list of one name, of no categories and of no grade
+by_level : (label : Label) (b : Bool) (cats : List (List ℕ)) (grade : Option (List ℕ))
+    → labelled (cond (nat_lt (cond (not b) 1 0) 1) (Some (cond (not b) 1 0)) None) (places_of [] cats) (grade_named [] grade) ≡ Some label → lowest_value.0 ≡ label
+unfolding known label_words lowest_value parse_label
+by_level label true [] None e = same_Some lowest_value.0 label e
+by_level label true [] (Some g) e = absurd (cc)
+by_level label true (c ∷ cs) grade e = absurd (cc)
+by_level label false cats grade e = absurd (cc)
 
 -- by that name alone, all texts of labels denote one label
-only_label : (text : List ℕ) (label : Label) → parse_label lowest text ≡ Some label → top_of lowest ≡ label
-unfolding parse_label top_of
+only_label : (text : List ℕ) (label : Label) → parse_label lowest text ≡ Some label → lowest_value.0 ≡ label
+unfolding parse_label
 only_label text label e = by_words (label_words text) e
   where
-    by_words : (w : Option LabelWords) → option_and_then (label_of_words lowest) w ≡ Some label → top_of lowest ≡ label
+    by_words : (w : Option LabelWords) → option_and_then (label_of_words lowest) w ≡ Some label → lowest_value.0 ≡ label
     by_words None e = absurd (cc)
-    by_words (Some w) e = by_level label _ (same_bytes w.level (codes "l0")) w.cats e
+    by_words (Some w) e = by_level label (same_bytes w.level (codes "l0")) w.cats w.grade e
 
 -- the bottom label has a text by that name too, so it is this label
-bottom_only : top_of lowest ≡ bottom
+bottom_only : lowest_value.0 ≡ bottom
 unfolding names_fault
 bottom_only = only_label (label_text lowest bottom) bottom (parse_text lowest bottom refl (dominates_bottom (top_of lowest)))
 
 -- the name of the lowest level denotes the bottom label
 level_0 : label_of policy (codes "l0") ≡ value.Known bottom
-unfolding label_words parse_label top_of
-level_0 = ap (λ (l : Label). value.Known l) bottom_only
+level_0 = lowest_value.1 ∙ ap (λ (l : Label). value.Known l) bottom_only
 
 -- ---- directories
 
@@ -285,11 +291,11 @@ levels_line : parse_line (at.Names One Levels no_names) (codes "levels l0 l1 l2 
 unfolding parse_line parse_words words_of is_blank names_fault
 levels_line = refl
 
-categories_line : parse_line (at.Names One Categories (with_names no_names Levels policy.levels)) (codes "categories c0 c1") ≡ GoesOn (at.Bound One policy)
+categories_line : parse_line (at.Names One Categories (with_names no_names Levels policy.levels)) (codes "categories c0 c1") ≡ GoesOn (at.Grades One policy)
 unfolding parse_line parse_words words_of is_blank names_fault
 categories_line = refl
 
-bound_line : parse_line (at.Bound One policy) (codes "bound all") ≡ GoesOn (tree_at [] [])
+bound_line : parse_line (at.Grades One policy) (codes "bound all") ≡ GoesOn (tree_at [] [])
 unfolding parse_line parse_words words_of is_blank
 bound_line = ap (λ (v : WordValue CapSet). with_value v (λ bound. GoesOn (at.Tree (record { format = One; policy = policy; bound = bound; builder = record { objects = []; procs = [] } })))) bound_value.1
 
@@ -327,7 +333,7 @@ tree_reads_on : ReadsOn (tree_at [] []) (drop 4 before_script) (tree_at all_dirs
 tree_reads_on = (tree_at after_root [], root_line, (tree_at after_d0 [], d0_line, (tree_at after_d1 [], d1_line, (tree_at after_d2 [], d2_line, (tree_at all_dirs [], d3_line, procs_read_on)))))
 
 head_reads_on : ReadsOn at.Format before_script (tree_at all_dirs all_procs)
-head_reads_on = (at.Names One Levels no_names, format_line, (at.Names One Categories (with_names no_names Levels policy.levels), levels_line, (at.Bound One policy, categories_line, (tree_at [] [], bound_line, tree_reads_on))))
+head_reads_on = (at.Names One Levels no_names, format_line, (at.Names One Categories (with_names no_names Levels policy.levels), levels_line, (at.Grades One policy, categories_line, (tree_at [] [], bound_line, tree_reads_on))))
 
 script_begins : (n : ℕ) (p : List ℕ) (ps : List (List ℕ)) → reading n (tree_at all_dirs all_procs) (codes "script" ∷ p ∷ ps) ≡ Accepted generated_world (n + 1) (p ∷ ps)
 unfolding reading

@@ -21,6 +21,6 @@ pub mod GeneratedWorld
 pub mod GeneratedInput
 pub mod ViewLemmas
 pub mod PieceLemmas
-pub mod KeptLemmas
+pub mod HeldReports
 pub mod SeenLemmas
 pub mod ScriptSeen

@@ -102,7 +102,7 @@ pub record SawScript (result : Result Played Fault) (policy : PolicyNames) (s : 
 -- ---- what the ends hold
 
 -- behind what the ends held at the start they hold what is reported of the calls seen, and then a prefix of what is reported of the call that was stopped, if there is one; until then the report is that after the calls seen; where all is reported, the records of the calls seen are readable
-pub record Kept (policy : PolicyNames) (first now : Report) (seen stopped : List CallRecord) (before after : Ends) : Type 0 where
+pub record HoldReports (policy : PolicyNames) (first now : Report) (seen stopped : List CallRecord) (before after : Ends) : Type 0 where
   pub front : List Sent
   pub rest : List Sent
   pub next : reported (report_after first seen) policy (length seen + 1) stopped ≡ front ++ rest
@@ -112,6 +112,6 @@ pub record Kept (policy : PolicyNames) (first now : Report) (seen stopped : List
   pub one : length stopped ≤ 1
 
 -- the same from a list that has the output, the trail and the report as they were at the start
-abbrev pub KeptSince : {K T : Type 0} → (K → SinkView) → (T → SinkView) → List (K × (T × Report)) → PolicyNames → Report → (seen stopped : List (Line × (ℕ × Outcome))) → (out trail : SinkView) → Type 0
-KeptSince f g [] policy now seen stopped out trail = ⊥
-KeptSince f g (start ∷ _) policy now seen stopped out trail = Kept policy start.1.1 now (calls_seen seen) (calls_seen stopped) (ends 0 (f start.0) (g start.1.0)) (ends 0 out trail)
+abbrev pub HoldReportsSince : {K T : Type 0} → (K → SinkView) → (T → SinkView) → List (K × (T × Report)) → PolicyNames → Report → (seen stopped : List (Line × (ℕ × Outcome))) → (out trail : SinkView) → Type 0
+HoldReportsSince f g [] policy now seen stopped out trail = ⊥
+HoldReportsSince f g (start ∷ _) policy now seen stopped out trail = HoldReports policy start.1.1 now (calls_seen seen) (calls_seen stopped) (ends 0 (f start.0) (g start.1.0)) (ends 0 out trail)

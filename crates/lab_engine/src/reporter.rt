@@ -8,7 +8,7 @@ ghost use Rattle.lab_engine.specs.Texts.{last_text};
 ghost use Rattle.lab_engine.specs.declared.reporting.Report.TheVariants as a_report;
 ghost use Rattle.lab_engine.specs.declared.reporting.Shown.TheVariants as a_shown;
 ghost use Rattle.lab_engine.specs.Report.{CountsAtMost, before_reply, call_sends, has_reply, report_after_call};
-ghost use Rattle.lab_engine.specs.Reporter.{HasCall, HasSeen, KeptSince, SameEnds, call_on, calls_seen, reply_at};
+ghost use Rattle.lab_engine.specs.Reporter.{HasCall, HasSeen, HoldReportsSince, SameEnds, call_on, calls_seen, reply_at};
 ghost use Rattle.lab_engine.specs.Readable.{AreReadable};
 ghost use Rattle.lab_engine.specs.Playing.{WritesBoth, WritesOut, WritesTrail};
 
@@ -215,7 +215,7 @@ pub struct Reporter<'a, K: Sink, T: Sink> {
     seen: GhostList<Line, usize, Outcome>,
     // The call that a fault stopped, or none.
     stopped: GhostList<Line, usize, Outcome>,
-    ghost kept: { ∥ KeptSince K.view T.view start.items texts.policy.now report seen.items stopped.items (K.view out.now) (T.view trail.now) ∥₁ },
+    ghost kept: { ∥ HoldReportsSince K.view T.view start.items texts.policy.now report seen.items stopped.items (K.view out.now) (T.view trail.now) ∥₁ },
 }
 
 impl<'a, K: Sink, T: Sink> Reporter<'a, K, T> {

@@ -1,4 +1,5 @@
 pub mod CatSets
+pub mod Grades
 pub mod Words
 pub mod Pairs
 pub mod Labels

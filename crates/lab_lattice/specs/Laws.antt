@@ -1,52 +1,65 @@
--- The laws that implementations of traits cite, with their proofs: levels, sets of categories and pairs are lattices and are
--- listed in total orders, and a set is stored as the bits of a number. Rattle takes what an implementation cites from `specs/` alone.
-use Rattle.std.specs.Prelude.{◌≡◌, ℕ, ◌+◌, ◌^◌, ◌<◌, Bool, true, false, ◌&&◌, ◌||◌, ◌==◌, nat_eq, nat_le, nat_lt, max, List, [], ◌∷◌, zero, suc, bit_or}
+-- The laws that implementations of traits cite, with their proofs: numbers, grades, sets of categories, pairs and
+-- lattices in reverse are lattices and are listed in total orders, and a set is stored as the bits of a number. Rattle takes what an implementation cites from `specs/` alone.
+use Rattle.std.specs.Prelude.{◌≡◌, ℕ, ◌+◌, ◌^◌, ◌<◌, ◌≤◌, Bool, true, false, ◌&&◌, ◌||◌, ◌==◌, nat_eq, nat_le, nat_lt, max, List, [], ◌∷◌, zero, suc, bit_or}
 use Rattle.std.specs.FinSet as set
 use Rattle.std.specs.Bool.{Decides, one_answer}
 use Rattle.std.specs.Int.{bit_at}
 use Rattle.std.specs.List.{list_any, range_with_len}
 use Rattle.std.specs.declared.cmp.Ordering.{Ordering}
 use Rattle.std.specs.Ordering.{nat_cmp, is_eq, eq_by_cmp, as_partial_cmp}
-use Rattle.std.specs.Cmp.{IsEquivalence, IsPartialOrder, IsTotalOrder, Equal-is, both_ways, both_tied, decided, first_so, second_so, on_total, then_total, tied_itself, nat_cmp_total, unsigned_tied, po}
+use Rattle.std.specs.Cmp.{IsEquivalence, IsPartialOrder, IsTotalOrder, Equal-is, both_ways, both_tied, decided, first_so, second_so, on_total, then_total, tied_itself, back_total, eq_by_cmp_equiv, nat_cmp_total, unsigned_tied, po}
 use Rattle.std.specs.FinMap.{IsAntisymmetric, nat_cmp-IsAntisymmetric}
 use Rattle.std.proofs.Common.{◌∙◌, ap, sym, subst, arith, inl, inr}
 use Rattle.std.proofs.lemmas.Bool.{cases_order, cases_lt, lt-ltb, or_left, or_right, or_cases, and_right}
 use Rattle.std.proofs.lemmas.Bool.Decides.{nat_tests, Decides-eqb}
 use Rattle.std.proofs.lemmas.Nat.Bits.{bit_at-lt, bit_at-zero, bit_at_or, bit_at_above, bit_at-pow_same, bit_at-pow_other, same_from_bits}
+use Rattle.std.proofs.Math.Nat.{min-eq_left}
+use Rattle.lab_lattice.specs.declared.dual.Dual.{Dual}
 use Rattle.lab_lattice.specs.declared.pair.Pair.{Pair}
-use Rattle.lab_lattice.specs.Level.{level_covers, level_join, level_meet}
+use Rattle.lab_lattice.specs.Number.{number_covers, number_join, number_meet}
 use Rattle.lab_lattice.specs.Cats.{CatSet, has_cat, cats_join, cats_meet, cats_cover, same_sets}
+use Rattle.lab_lattice.specs.Grade.{Grade, same_grades, grade_of, grade_covers}
 use Rattle.lab_lattice.specs.Word.{in_word, all_cats, cats_of_word, word_with, word_of_cats, cats_cmp}
+use Rattle.lab_lattice.specs.Dual.{dual_covers, dual_cmp}
 use Rattle.lab_lattice.specs.Pair.{pair_covers, pair_covers-parts, pair_of, pair_cmp, pair_cmp-parts}
 
--- ---- levels
+-- ---- numbers
 
-pub level_reflexive : (x : ℕ) → level_covers x x ≡ true
-level_reflexive x = grind (arith, nat_tests)
+pub number_reflexive : (x : ℕ) → number_covers x x ≡ true
+number_reflexive x = grind (arith, nat_tests)
 
-pub level_transitive : (x y z : ℕ) → level_covers x y ≡ true → level_covers y z ≡ true → level_covers x z ≡ true
-level_transitive x y z p q = grind (arith, nat_tests)
+pub number_transitive : (x y z : ℕ) → number_covers x y ≡ true → number_covers y z ≡ true → number_covers x z ≡ true
+number_transitive x y z p q = grind (arith, nat_tests)
 
-pub level_antisymmetric : (x y : ℕ) → level_covers x y ≡ true → level_covers y x ≡ true → x ≡ y
-level_antisymmetric x y p q = grind (arith, nat_tests)
+pub number_antisymmetric : (x y : ℕ) → number_covers x y ≡ true → number_covers y x ≡ true → x ≡ y
+number_antisymmetric x y p q = grind (arith, nat_tests)
 
-pub level_join_first : (x y : ℕ) → level_covers (level_join x y) x ≡ true
-level_join_first x y = grind (arith, nat_tests)
+pub number_join_first : (x y : ℕ) → number_covers (number_join x y) x ≡ true
+number_join_first x y = grind (arith, nat_tests)
 
-pub level_join_second : (x y : ℕ) → level_covers (level_join x y) y ≡ true
-level_join_second x y = grind (arith, nat_tests)
+pub number_join_second : (x y : ℕ) → number_covers (number_join x y) y ≡ true
+number_join_second x y = grind (arith, nat_tests)
 
-pub level_join_least : (x y z : ℕ) → level_covers z x ≡ true → level_covers z y ≡ true → level_covers z (level_join x y) ≡ true
-level_join_least x y z p q = grind (arith, nat_tests)
+pub number_join_least : (x y z : ℕ) → number_covers z x ≡ true → number_covers z y ≡ true → number_covers z (number_join x y) ≡ true
+number_join_least x y z p q = grind (arith, nat_tests)
 
-pub level_meet_first : (x y : ℕ) → level_covers x (level_meet x y) ≡ true
-level_meet_first x y = grind (arith, nat_tests)
+pub number_meet_first : (x y : ℕ) → number_covers x (number_meet x y) ≡ true
+number_meet_first x y = grind (arith, nat_tests)
 
-pub level_meet_second : (x y : ℕ) → level_covers y (level_meet x y) ≡ true
-level_meet_second x y = grind (arith, nat_tests)
+pub number_meet_second : (x y : ℕ) → number_covers y (number_meet x y) ≡ true
+number_meet_second x y = grind (arith, nat_tests)
 
-pub level_meet_greatest : (x y z : ℕ) → level_covers x z ≡ true → level_covers y z ≡ true → level_covers (level_meet x y) z ≡ true
-level_meet_greatest x y z p q = grind (arith, nat_tests)
+pub number_meet_greatest : (x y z : ℕ) → number_covers x z ≡ true → number_covers y z ≡ true → number_covers (number_meet x y) z ≡ true
+number_meet_greatest x y z p q = grind (arith, nat_tests)
+
+-- ---- grades
+
+-- a grade has its number
+pub grade_number : (n : ℕ) → n ≤ 15 → (grade_of n).number ≡ n
+grade_number n h = min-eq_left h
+
+pub grade_antisymmetric : (x y : Grade) → grade_covers x y ≡ true → grade_covers y x ≡ true → x ≡ y
+grade_antisymmetric x y p q = same_grades x y (number_antisymmetric x.number y.number p q)
 
 -- ---- sets of categories
 
@@ -248,3 +261,24 @@ module _ {A B : Type 0} where
 
     pub pair_partial_order : ((x y : A) → D x y ≡ eq_by_cmp f x y) → ((x y : B) → E x y ≡ eq_by_cmp g x y) → IsTotalOrder f → IsTotalOrder g → IsPartialOrder (λ (x y : Pair A B). D x.first y.first && E x.second y.second) (as_partial_cmp (pair_cmp f g))
     pair_partial_order s t p q = po (pair_cmp_total p q) (pair_ties s t)
+
+-- ---- lattices in reverse
+
+module _ {A : Type 0} where
+  module _ (f : A → A → Bool) where
+    pub dual_transitive : ((x y z : A) → f x y ≡ true → f y z ≡ true → f x z ≡ true) → (x y z : Dual A) → dual_covers f x y ≡ true → dual_covers f y z ≡ true → dual_covers f x z ≡ true
+    dual_transitive p x y z s t = p z.inner y.inner x.inner t s
+
+    pub dual_antisymmetric : ((x y : A) → f x y ≡ true → f y x ≡ true → x ≡ y) → (x y : Dual A) → dual_covers f x y ≡ true → dual_covers f y x ≡ true → x ≡ y
+    dual_antisymmetric p x y s t i = record { inner = p x.inner y.inner t s i }
+
+  pub dual_cmp_total : {f : A → A → Ordering} → IsTotalOrder f → IsTotalOrder (dual_cmp f)
+  dual_cmp_total p = back_total (on_total (λ (x : Dual A). x.inner) p)
+
+  module _ {f : A → A → Ordering} {D : A → A → Bool} where
+    -- two values tie where the inner ones do
+    pub dual_ties : ((x y : A) → D x y ≡ eq_by_cmp f x y) → IsTotalOrder f → (x y : Dual A) → D x.inner y.inner ≡ eq_by_cmp (dual_cmp f) x y
+    dual_ties s p x y = s x.inner y.inner ∙ (eq_by_cmp_equiv p).symm x.inner y.inner
+
+    pub dual_partial_order : ((x y : A) → D x y ≡ eq_by_cmp f x y) → IsTotalOrder f → IsPartialOrder (λ (x y : Dual A). D x.inner y.inner) (as_partial_cmp (dual_cmp f))
+    dual_partial_order s p = po (dual_cmp_total p) (dual_ties s p)

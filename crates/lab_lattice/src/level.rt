@@ -48,6 +48,15 @@ impl Level {
         Level { number: 0 }
     }
 
+    /// The highest level that a value can have.
+    pub fn highest() -> Level
+        ensures { result ≡ 15 }
+    {
+        Level {
+            number: u64::from(MAX_LEVEL),
+        }
+    }
+
     /// Its number.
     pub fn number(&self) -> u8
         ensures number { result ≡ self.now }
@@ -58,32 +67,32 @@ impl Level {
 }
 
 impl Lattice for Level {
-    ghost use Rattle.lab_lattice.specs.Level.{level_covers, level_join, level_meet};
-    ghost use Rattle.lab_lattice.specs.Laws.{level_reflexive, level_transitive, level_antisymmetric, level_join_first, level_join_second, level_join_least, level_meet_first, level_meet_second, level_meet_greatest};
+    ghost use Rattle.lab_lattice.specs.Number.{number_covers, number_join, number_meet};
+    ghost use Rattle.lab_lattice.specs.Laws.{number_reflexive, number_transitive, number_antisymmetric, number_join_first, number_join_second, number_join_least, number_meet_first, number_meet_second, number_meet_greatest};
 
-    ghost covers = { level_covers };
+    ghost covers = { number_covers };
 
-    ghost join = { level_join };
+    ghost join = { number_join };
 
-    ghost meet = { level_meet };
+    ghost meet = { number_meet };
 
-    ghost reflexive = { level_reflexive };
+    ghost reflexive = { number_reflexive };
 
-    ghost transitive = { level_transitive };
+    ghost transitive = { number_transitive };
 
-    ghost antisymmetric = { level_antisymmetric };
+    ghost antisymmetric = { number_antisymmetric };
 
-    ghost join_above_first = { level_join_first };
+    ghost join_above_first = { number_join_first };
 
-    ghost join_above_second = { level_join_second };
+    ghost join_above_second = { number_join_second };
 
-    ghost join_least = { level_join_least };
+    ghost join_least = { number_join_least };
 
-    ghost meet_below_first = { level_meet_first };
+    ghost meet_below_first = { number_meet_first };
 
-    ghost meet_below_second = { level_meet_second };
+    ghost meet_below_second = { number_meet_second };
 
-    ghost meet_greatest = { level_meet_greatest };
+    ghost meet_greatest = { number_meet_greatest };
 
     fn dominates(&self, other: &Self) -> bool {
         self.number >= other.number

@@ -6,18 +6,20 @@ ghost use Rattle.lab_lattice.specs.Label.{bottom};
 
 mod cats;
 mod dual;
+mod grade;
 mod lattice;
 mod level;
 mod pair;
 
 pub use cats::Cats;
 pub use dual::Dual;
+pub use grade::Grade;
 pub use lattice::Lattice;
 pub use level::Level;
 pub use pair::Pair;
 
 /// The label of a process or an object. Its meaning is in `specs/Label.antt`.
-pub type Label = Pair<Level, Cats>;
+pub type Label = Pair<Pair<Level, Cats>, Dual<Grade>>;
 
 /// The label that each label dominates.
 #[tactic(auto, unfolding(crate::specs::Label::bottom))]
@@ -25,7 +27,12 @@ pub fn bottom() -> Label
     ensures { result ≡ bottom }
 {
     Pair {
-        first: Level::lowest(),
-        second: Cats::empty(),
+        first: Pair {
+            first: Level::lowest(),
+            second: Cats::empty(),
+        },
+        second: Dual {
+            inner: Grade::highest(),
+        },
     }
 }

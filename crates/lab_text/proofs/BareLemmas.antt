@@ -1,17 +1,19 @@
 -- Names and labels can be written as bare words of a line.
-use Rattle.std.specs.Prelude.{◌≡◌, ℕ, ◌&&◌, nat_le, nat_lt, true, List, [], ◌∷◌, ◌++◌, length, refl}
+use Rattle.std.specs.Prelude.{◌≡◌, ℕ, ◌&&◌, nat_le, nat_lt, true, List, [], ◌∷◌, ◌++◌, length, Option, None, Some, refl}
 use Rattle.std.proofs.Common.{ap, ◌∙◌, arith}
 use Rattle.std.specs.List.{list_all}
+use Rattle.std.specs.Option.{option_to_list}
 use Rattle.std.proofs.lemmas.Bool.{and_parts, and_from, ltb-true, lt-ltb}
 use Rattle.std.proofs.lemmas.Bool.Decides.{nat_tests}
 use Rattle.std.proofs.lemmas.List.{length-append}
 use Rattle.std.proofs.lemmas.List.Folds.{list_all-append}
 use Rattle.fs_path.specs.Words.{is_bare, is_bare_text}
 use Rattle.lab_lattice.specs.Label.{Label}
-use Rattle.lab_text.specs.Names.{Names, is_letter, is_name_part, is_label_name}
+use Rattle.lab_text.specs.Names.{is_letter, is_name_part, is_label_name}
 use Rattle.lab_text.specs.Policy.{PolicyNames, MakePolicy, is_valid}
-use Rattle.lab_text.specs.Text.{past_mark, label_text}
+use Rattle.lab_text.specs.Text.{past_mark, past_slash, label_text}
 use Rattle.lab_text.proofs.Parsed.{text_names}
+use Rattle.lab_text.proofs.PartLemmas.{name_parts, parts_all, marked_all}
 
 -- ---- words
 
@@ -38,25 +40,21 @@ letter_bare b h = grind (arith, nat_tests)
 part_bare : (b : ℕ) → is_name_part b ≡ true → is_bare b ≡ true
 part_bare b h = grind (arith, nat_tests)
 
-parts_bare : (n : List ℕ) → list_all is_name_part n ≡ true → list_all is_bare n ≡ true
-parts_bare [] h = refl
-parts_bare (b ∷ bs) h = let parts = and_parts (is_name_part b) (list_all is_name_part bs) h in and_from (is_bare b) (list_all is_bare bs) (part_bare b parts.0) (parts_bare bs parts.1)
-
--- the name of a level or of a category is a bare word
+-- the name of a level, of a category or of a grade is a bare word
 pub label_name_bare : (n : List ℕ) → is_label_name n ≡ true → is_bare_text n ≡ true
 label_name_bare [] h = absurd (cc)
 label_name_bare (b ∷ bs) h =
     let parts = and_parts (is_letter b && nat_le (length bs) 30) (list_all is_name_part bs) h in
-    bare_begins b bs (letter_bare b (and_parts (is_letter b) (nat_le (length bs) 30) parts.0).0) (parts_bare bs parts.1)
+    bare_begins b bs (letter_bare b (and_parts (is_letter b) (nat_le (length bs) 30) parts.0).0) (parts_all is_bare part_bare bs parts.1)
 
-marked_bare : (mark : ℕ) (ns : Names) → is_bare mark ≡ true → list_all is_label_name ns ≡ true → list_all is_bare (past_mark mark ns) ≡ true
-marked_bare mark [] bare h = refl
-marked_bare mark (n ∷ ns) bare h =
-    let parts = and_parts (is_label_name n) (list_all is_label_name ns) h in
-    and_from (is_bare mark) (list_all is_bare (n ++ past_mark 44 ns)) bare (list_all-append is_bare n (past_mark 44 ns) ∙ and_from _ _ (all_bare n (label_name_bare n parts.0)) (marked_bare 44 ns refl parts.1))
+-- a slash and the name of a grade, if there is one
+graded_bare : (g : Option (List ℕ)) → list_all is_label_name (option_to_list g) ≡ true → list_all is_bare (past_slash g) ≡ true
+graded_bare None h = refl
+graded_bare (Some n) h = and_from (is_bare 47) (list_all is_bare n) refl (parts_all is_bare part_bare n (name_parts n (and_parts (is_label_name n) true h).0))
 
 -- the text of a valid label is a bare word
 pub label_bare : (p : PolicyNames) (label : Label) → MakePolicy p → is_valid p label ≡ true → is_bare_text (label_text p label) ≡ true
 label_bare p label h valid =
     let names = text_names p label h valid in
-    ap is_bare_text names.text_is ∙ bare_with names.level (past_mark 58 names.cats) (label_name_bare names.level names.level_name) (marked_bare 58 names.cats refl names.cat_names)
+    let secrecy = bare_with names.level (past_mark 58 names.cats) (label_name_bare names.level names.level_name) (marked_all is_bare part_bare 58 names.cats refl refl names.cat_names) in
+    ap is_bare_text names.text_is ∙ bare_with (names.level ++ past_mark 58 names.cats) (past_slash names.grade) secrecy (graded_bare names.grade names.grade_names)

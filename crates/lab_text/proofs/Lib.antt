@@ -1,3 +1,4 @@
+pub mod PartLemmas
 pub mod ScanLemmas
 pub mod PolicyLemmas
 pub mod NameLemmas

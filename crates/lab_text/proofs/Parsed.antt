@@ -1,36 +1,39 @@
 -- The labels that texts denote; a label's text denotes that label.
-use Rattle.std.specs.Prelude.{◌≡◌, ℕ, ◌+◌, ◌-◌, ◌≤◌, ◌<◌, Bool, true, false, not, ◌&&◌, ◌||◌, nat_eq, nat_le, nat_lt, cond, List, [], ◌∷◌, ◌++◌, length, take, drop, get_or, Option, None, Some, option_and_then, is_some, refl, zero, suc}
+use Rattle.std.specs.Prelude.{◌≡◌, ℕ, ◌+◌, ◌-◌, ◌≤◌, ◌<◌, Bool, true, false, not, ◌&&◌, ◌||◌, ◌==◌, nat_eq, nat_le, nat_lt, min, cond, List, [], ◌∷◌, ◌++◌, length, drop, get_or, Option, None, Some, option_and_then, is_some, refl, zero, suc}
 use Rattle.std.specs.FinSet as set
-use Rattle.std.specs.List.{list_all, list_any, slice_split, position_or_len, range_with_len, All}
-use Rattle.std.specs.Option.{option_map}
+use Rattle.std.specs.List.{list_all, list_any, before_first, slice_split, range_with_len, All}
+use Rattle.std.specs.Option.{option_map, option_or, option_to_list}
 use Rattle.std.proofs.Common.{ap, sym, ◌∙◌, arith, inl, inr}
-use Rattle.std.proofs.lemmas.Bool.{ltb-true, lt-ltb, leb-true, le-leb, and_parts, and_from, and_right, or_cases, or_from, eqb-true, ne_eqb, true≢false, true_from_ne_false, both_ways}
+use Rattle.std.proofs.lemmas.Bool.{ltb-true, lt-ltb, le-ltb, leb-true, le-leb, and_parts, and_from, and_right, or_cases, or_from, eqb-true, ne_eqb, true≢false, true_from_ne_false, both_ways}
 use Rattle.std.proofs.lemmas.Bool.Decides.{nat_tests}
 use Rattle.std.proofs.lemmas.List.{append-nil}
-use Rattle.std.proofs.lemmas.List.Folds.{list_all_at}
+use Rattle.std.proofs.lemmas.List.Folds.{list_all_at, list_all-append}
 use Rattle.std.proofs.lemmas.List.Elements.{All-nil, All-cons}
 use Rattle.std.proofs.lemmas.List.Splits.{slice_split_none, slice_split_at}
 use Rattle.std.proofs.lemmas.Option.{same_Some}
-use Rattle.lab_lattice.specs.Cats.{CatSet, has_cat, no_cats, cats_cover}
-use Rattle.lab_lattice.specs.Laws.{has-cover, cover-has, same_cats}
-use Rattle.lab_lattice.specs.Label.{Label}
-use Rattle.lab_lattice.specs.Level.{level_covers}
-use Rattle.lab_lattice.specs.Laws.{pair_parts, covers_first, covers_second}
-use Rattle.lab_text.specs.Names.{Names, same_bytes, is_label_name, is_letter, is_name_part, are_distinct, place_of}
-use Rattle.lab_text.specs.declared.lists.NameList.TheVariants.{Levels, Categories}
-use Rattle.lab_text.specs.Policy.{PolicyNames, MakePolicy, top_of, is_valid}
-use Rattle.lab_text.specs.Text.{is_colon, is_comma, LabelWords, parts_of, label_words, is_label_text, places_of, label_of, parse_label, first_unknown, unknown_in, SaysNone, names_in, past_mark, label_text}
+use Rattle.fs_path.specs.Split.{pieces_of_rest, after_first_of}
 use Rattle.fs_path.proofs.SplitLemmas.{position_found}
-use Rattle.lab_text.proofs.PolicyFacts.{policy_facts, some_level, unlisted_unplaced, place_of_own}
+use Rattle.lab_lattice.specs.Number.{number_covers}
+use Rattle.lab_lattice.specs.Cats.{CatSet, has_cat, no_cats, cats_cover}
+use Rattle.lab_lattice.specs.Grade.{Grade, same_grades, highest_grade, grade_covers}
+use Rattle.lab_lattice.specs.Dual.{dual_covers}
+use Rattle.lab_lattice.specs.Label.{Label, secrecy_covers}
+use Rattle.lab_lattice.specs.Laws.{has-cover, cover-has, same_cats, pair_parts, covers_first, covers_second}
+use Rattle.lab_text.specs.Names.{Names, same_bytes, is_label_name, is_name_part, are_distinct, place_of}
+use Rattle.lab_text.specs.declared.lists.NameList.TheVariants.{Levels, Categories, Grades}
+use Rattle.lab_text.specs.Policy.{PolicyNames, MakePolicy, grade_at, lowest_grade, label_with, top_of, is_valid}
+use Rattle.lab_text.specs.Text.{is_colon, LabelWords, before_slash, parts_of, are_names, label_words, is_label_text, places_of, grade_named, labelled, label_of, parse_label, first_unknown, unknown_in, SaysNone, names_in, past_mark, grade_name, written_grade, past_slash, label_text}
 use Rattle.lab_text.specs.declared.text.LabelError.{LabelError}
 use Rattle.lab_text.specs.declared.text.LabelError.TheVariants as error
+use Rattle.lab_text.proofs.PolicyFacts.{policy_facts, some_level, unlisted_unplaced, place_of_own}
+use Rattle.lab_text.proofs.PartLemmas.{is_comma, before_past, after_past, no_slash, no_colon, no_comma, name_parts, parts_all, marked_all}
 
 -- ---- words
 
 -- the words of a text that has a label's form
 pub words_of : (text : List ℕ) → is_label_text text ≡ true → label_words text ≡ Some (parts_of text)
 unfolding label_words
-words_of text h = by_form (is_label_name (parts_of text).level && list_all is_label_name (parts_of text).cats) h
+words_of text h = by_form (are_names (parts_of text)) h
   where
     by_form : (v : Bool) → is_some (cond v (Some (parts_of text)) None) ≡ true → cond v (Some (parts_of text)) None ≡ Some (parts_of text)
     by_form true h = refl
@@ -43,7 +46,7 @@ no_words text h = by_words (label_words text) h
     by_words None h = refl
     by_words (Some w) h = absurd (cc)
 
-unplaced : (known : Names) (at a : ℕ) (ws : Names) → first_unknown known at ws ≡ Some a → places_of known ws ≡ None
+pub unplaced : (known : Names) (at a : ℕ) (ws : Names) → first_unknown known at ws ≡ Some a → places_of known ws ≡ None
 unplaced known at a [] h = absurd (cc)
 unplaced known at a (w ∷ ws) h = by_first (list_any (same_bytes w) known) refl (λ k. unplaced known (at + length w + 1) a ws k) h
   where
@@ -56,36 +59,47 @@ unplaced known at a (w ∷ ws) h = by_first (list_any (same_bytes w) known) refl
     by_first true e rest h = ap (λ o. option_and_then (λ i. option_map (λ is. i ∷ is) o) (place_of known w)) (rest h) ∙ no_more (place_of known w)
     by_first false e rest h = ap (option_and_then (λ i. option_map (λ is. i ∷ is) (places_of known ws))) (unlisted_unplaced known w e)
 
--- the label of a level and categories, where both are known
-abbrev pub labelled : Option ℕ → Option (List ℕ) → Option Label
-labelled level cats = option_and_then (λ level. option_map (λ cats. record { first = level; second = set.from_list cats }) cats) level
-
-not_parsed : (p : PolicyNames) (w : LabelWords) (e : LabelError) → unknown_in p w ≡ Some e → label_of p w ≡ None
-not_parsed p w e h = by_level (list_any (same_bytes w.level) p.levels) refl h
+pub unplaced_one : (known : Names) (at a : ℕ) (w : List ℕ) → first_unknown known at (w ∷ []) ≡ Some a → place_of known w ≡ None
+unplaced_one known at a w h = by_listed (list_any (same_bytes w) known) refl h
   where
-    no_cats : (o : Option ℕ) → labelled o None ≡ None
-    no_cats None = refl
-    no_cats (Some i) = refl
+    by_listed : (v : Bool) → list_any (same_bytes w) known ≡ v → cond v None (Some at) ≡ Some a → place_of known w ≡ None
+    by_listed true e h = absurd (cc)
+    by_listed false e h = unlisted_unplaced known w e
 
-    by_cats : (o : Option ℕ) → first_unknown p.cats (length w.level + 1) w.cats ≡ o → option_map error.UnknownCategory o ≡ Some e → label_of p w ≡ None
-    by_cats None f h = absurd (cc)
-    by_cats (Some a) f h = ap (labelled (place_of p.levels w.level)) (unplaced p.cats (length w.level + 1) a w.cats f) ∙ no_cats (place_of p.levels w.level)
+grade_unplaced : (known : Names) (at a : ℕ) (g : Option (List ℕ)) → first_unknown known at (option_to_list g) ≡ Some a → grade_named known g ≡ None
+grade_unplaced known at a None h = absurd (cc)
+grade_unplaced known at a (Some w) h = ap (option_map (grade_at known)) (unplaced_one known at a w h)
 
-    by_level : (v : Bool) → list_any (same_bytes w.level) p.levels ≡ v
-        → cond v (option_map error.UnknownCategory (first_unknown p.cats (length w.level + 1) w.cats)) (Some (error.UnknownLevel 0)) ≡ Some e → label_of p w ≡ None
-    by_level true f h = by_cats (first_unknown p.cats (length w.level + 1) w.cats) refl h
-    by_level false f h = ap (λ o. labelled o (places_of p.cats w.cats)) (unlisted_unplaced p.levels w.level f)
+not_parsed : (p : PolicyNames) (text : List ℕ) (w : LabelWords) (e : LabelError) → unknown_in p text w ≡ Some e → label_of p w ≡ None
+not_parsed p text w e h = by_unknown (first_unknown p.levels 0 (w.level ∷ [])) (first_unknown p.cats (length w.level + 1) w.cats) (first_unknown p.grades (length (before_slash text) + 1) (option_to_list w.grade)) refl refl refl h
+  where
+    no_cats : (o : Option ℕ) (g : Option Grade) → labelled o None g ≡ None
+    no_cats None g = refl
+    no_cats (Some i) g = refl
 
-none_parsed : (p : PolicyNames) (o : Option LabelWords) (e : LabelError) → option_and_then (unknown_in p) o ≡ Some e → option_and_then (label_of p) o ≡ None
-none_parsed p None e h = refl
-none_parsed p (Some w) e h = not_parsed p w e h
+    no_grade : (o : Option ℕ) (r : Option (List ℕ)) → labelled o r None ≡ None
+    no_grade None r = refl
+    no_grade (Some i) None = refl
+    no_grade (Some i) (Some is) = refl
+
+    by_unknown : (a b c : Option ℕ) → first_unknown p.levels 0 (w.level ∷ []) ≡ a → first_unknown p.cats (length w.level + 1) w.cats ≡ b → first_unknown p.grades (length (before_slash text) + 1) (option_to_list w.grade) ≡ c
+        → option_or (option_map error.UnknownLevel a) (option_or (option_map error.UnknownCategory b) (option_map error.UnknownGrade c)) ≡ Some e → label_of p w ≡ None
+    by_unknown (Some a) b c f g k h = ap (λ o. labelled o (places_of p.cats w.cats) (grade_named p.grades w.grade)) (unplaced_one p.levels 0 a w.level f)
+    by_unknown None (Some b) c f g k h = ap (λ o. labelled (place_of p.levels w.level) o (grade_named p.grades w.grade)) (unplaced p.cats (length w.level + 1) b w.cats g) ∙ no_cats (place_of p.levels w.level) (grade_named p.grades w.grade)
+    by_unknown None None (Some c) f g k h = ap (labelled (place_of p.levels w.level) (places_of p.cats w.cats)) (grade_unplaced p.grades (length (before_slash text) + 1) c w.grade k) ∙ no_grade (place_of p.levels w.level) (places_of p.cats w.cats)
+    by_unknown None None None f g k h = absurd (cc)
+
+none_parsed : (p : PolicyNames) (text : List ℕ) (o : Option LabelWords) (e : LabelError) → option_and_then (unknown_in p text) o ≡ Some e → option_and_then (label_of p) o ≡ None
+none_parsed p text None e h = refl
+none_parsed p text (Some w) e h = not_parsed p text w e h
 
 -- a text that is refused denotes no label
 pub says_none : (p : PolicyNames) (text : List ℕ) (e : LabelError) → SaysNone p text e → parse_label p text ≡ None
 unfolding parse_label
 says_none p text (error.Syntax at) h = ap (option_and_then (label_of p)) (no_words text h.is_none)
-says_none p text (error.UnknownLevel at) h = none_parsed p (label_words text) (error.UnknownLevel at) h
-says_none p text (error.UnknownCategory at) h = none_parsed p (label_words text) (error.UnknownCategory at) h
+says_none p text (error.UnknownLevel at) h = none_parsed p text (label_words text) (error.UnknownLevel at) h
+says_none p text (error.UnknownCategory at) h = none_parsed p text (label_words text) (error.UnknownCategory at) h
+says_none p text (error.UnknownGrade at) h = none_parsed p text (label_words text) (error.UnknownGrade at) h
 
 -- ---- valid labels
 
@@ -100,29 +114,56 @@ has-first_cats n q = set.contains-from_list_nat (range_with_len 0 n) q ∙ liste
     from_zero : (n q : ℕ) → (nat_le 0 q && nat_lt q (0 + n)) ≡ nat_lt q n
     from_zero n q = grind (arith, nat_tests)
 
--- the level and the categories of a valid label are the policy's
-pub valid_level : (p : PolicyNames) (label : Label) → is_valid p label ≡ true → label.first ≤ length p.levels - 1
-unfolding top_of
-valid_level p label h = leb-true label.first (length p.levels - 1) (covers_first level_covers cats_cover (top_of p) label h)
+-- the parts of a valid label are the policy's
+pub valid_secrecy : (p : PolicyNames) (label : Label) → is_valid p label ≡ true → secrecy_covers (top_of p).first label.first ≡ true
+valid_secrecy p label h = covers_first secrecy_covers (dual_covers grade_covers) (top_of p) label h
 
-pub valid_cats : (p : PolicyNames) (label : Label) → is_valid p label ≡ true → (q : ℕ) → has_cat label.second q ≡ true → q < length p.cats
+pub valid_level : (p : PolicyNames) (label : Label) → is_valid p label ≡ true → label.first.first ≤ length p.levels - 1
+unfolding top_of
+valid_level p label h = leb-true label.first.first (length p.levels - 1) (covers_first number_covers cats_cover (top_of p).first label.first (valid_secrecy p label h))
+
+pub valid_cats : (p : PolicyNames) (label : Label) → is_valid p label ≡ true → (q : ℕ) → has_cat label.first.second q ≡ true → q < length p.cats
 unfolding top_of
 valid_cats p label h q has =
-    ltb-true q (length p.cats) (sym (has-first_cats (length p.cats) q) ∙ cover-has (top_of p).second label.second (covers_second level_covers cats_cover (top_of p) label h) q has)
+    ltb-true q (length p.cats)
+    (sym (has-first_cats (length p.cats) q) ∙ cover-has (top_of p).first.second label.first.second (covers_second number_covers cats_cover (top_of p).first label.first (valid_secrecy p label h)) q has)
 
-pub valid_from : (p : PolicyNames) (label : Label) → label.first ≤ length p.levels - 1 → ((q : ℕ) → has_cat label.second q ≡ true → q < length p.cats) → is_valid p label ≡ true
+pub valid_grade : (p : PolicyNames) (label : Label) → is_valid p label ≡ true → (lowest_grade p.grades).number ≤ label.second.inner.number
 unfolding top_of
-valid_from p label level cats =
-    pair_parts level_covers cats_cover (top_of p) label (le-leb label.first (length p.levels - 1) level)
-    (has-cover (top_of p).second label.second (λ q has. has-first_cats (length p.cats) q ∙ lt-ltb q (length p.cats) (cats q has)))
+valid_grade p label h = leb-true (lowest_grade p.grades).number label.second.inner.number (covers_second secrecy_covers (dual_covers grade_covers) (top_of p) label h)
 
-label_parts : (level : Option ℕ) (cats : Option (List ℕ)) (label : Label) → labelled level cats ≡ Some label → (i : ℕ) × (is : List ℕ) × (level ≡ Some i) × (cats ≡ Some is) × (i ≡ label.first) × (set.from_list is ≡ label.second)
-label_parts None cats label h = absurd (cc)
-label_parts (Some i) None label h = absurd (cc)
-label_parts (Some i) (Some is) label h =
-    let parsed : Label = record { first = i; second = set.from_list is } in
-    let same : parsed ≡ label = same_Some parsed label h in
-    (i, is, refl, refl, ap (λ (l : Label). l.first) same, ap (λ (l : Label). l.second) same)
+pub valid_from : (p : PolicyNames) (label : Label) → label.first.first ≤ length p.levels - 1 → ((q : ℕ) → has_cat label.first.second q ≡ true → q < length p.cats)
+    → (lowest_grade p.grades).number ≤ label.second.inner.number → is_valid p label ≡ true
+unfolding top_of
+valid_from p label level cats grade =
+    pair_parts secrecy_covers (dual_covers grade_covers) (top_of p) label
+    (pair_parts number_covers cats_cover (top_of p).first label.first (le-leb label.first.first (length p.levels - 1) level)
+    (has-cover (top_of p).first.second label.first.second (λ q has. has-first_cats (length p.cats) q ∙ lt-ltb q (length p.cats) (cats q has))))
+    (le-leb (lowest_grade p.grades).number label.second.inner.number grade)
+
+-- the parts of a label that are known
+record HasParts (level : Option ℕ) (cats : Option (List ℕ)) (grade : Option Grade) (label : Label) : Type 0 where
+  pub place : ℕ
+  pub places : List ℕ
+  pub inner : Grade
+  pub level_is : level ≡ Some place
+  pub cats_are : cats ≡ Some places
+  pub grade_is : grade ≡ Some inner
+  pub label_is : label_with place places inner ≡ label
+
+label_parts : (level : Option ℕ) (cats : Option (List ℕ)) (grade : Option Grade) (label : Label) → labelled level cats grade ≡ Some label → HasParts level cats grade label
+label_parts None cats grade label h = absurd (cc)
+label_parts (Some i) None grade label h = absurd (cc)
+label_parts (Some i) (Some is) None label h = absurd (cc)
+label_parts (Some i) (Some is) (Some g) label h = record {
+  place = i;
+  places = is;
+  inner = g;
+  level_is = refl;
+  cats_are = refl;
+  grade_is = refl;
+  label_is = same_Some (label_with i is g) label h;
+}
 
 places_within : (known ws : Names) (is : List ℕ) (q : ℕ) → places_of known ws ≡ Some is → list_any (λ y. nat_eq y q) is ≡ true → q < length known
 places_within known [] is q h has = let e : [] ≡ is = same_Some [] is h in absurd (both_ways (list_any (λ y. nat_eq y q) is) (ap (list_any (λ y. nat_eq y q)) (sym e)) has)
@@ -138,6 +179,19 @@ places_within known (w ∷ ws) is q h has = by_parts (place_of known w) (places_
           | inr t ↦ rest js f t
         ]
 
+-- the grade of a name, or of none, is not below the lowest
+not_lowest : (names : Names) (g : Option (List ℕ)) (grade : Grade) → grade_named names g ≡ Some grade → (lowest_grade names).number ≤ grade.number
+not_lowest names None grade h =
+    let same : grade.number ≡ 15 = ap (λ (g : Grade). g.number) (sym (same_Some highest_grade grade h)) in
+    omega arith
+not_lowest names (Some w) grade h = by_place (place_of names w) h
+  where
+    by_place : (o : Option ℕ) → option_map (grade_at names) o ≡ Some grade → (lowest_grade names).number ≤ grade.number
+    by_place None h = absurd (cc)
+    by_place (Some i) h =
+        let same : grade.number ≡ min (16 - length names + i) 15 = ap (λ (g : Grade). g.number) (sym (same_Some (grade_at names i) grade h)) in
+        omega arith
+
 -- a label that a text denotes is valid
 pub parsed_valid : (p : PolicyNames) (text : List ℕ) (label : Label) → parse_label p text ≡ Some label → is_valid p label ≡ true
 unfolding parse_label
@@ -146,45 +200,14 @@ parsed_valid p text label h = by_words (label_words text) h
     by_words : (o : Option LabelWords) → option_and_then (label_of p) o ≡ Some label → is_valid p label ≡ true
     by_words None h = absurd (cc)
     by_words (Some w) h =
-        let parts = label_parts (place_of p.levels w.level) (places_of p.cats w.cats) label h in
-        let found = position_found (same_bytes w.level) p.levels parts.0 parts.2 in
-        let level = parts.4 in
-        valid_from p label (omega arith) (λ q has.
-        places_within p.cats w.cats parts.1 q parts.3 (sym (set.contains-from_list_nat parts.1 q) ∙ ap (λ (cats : CatSet). has_cat cats q) parts.5 ∙ has))
+        let parts = label_parts (place_of p.levels w.level) (places_of p.cats w.cats) (grade_named p.grades w.grade) label h in
+        let found = position_found (same_bytes w.level) p.levels parts.place parts.level_is in
+        let made = valid_from p (label_with parts.place parts.places parts.inner) (omega arith)
+        (λ q has. places_within p.cats w.cats parts.places q parts.cats_are (sym (set.contains-from_list_nat parts.places q) ∙ has))
+        (not_lowest p.grades w.grade parts.inner parts.grade_is) in
+        sym (ap (is_valid p) parts.label_is) ∙ made
 
 -- ---- the names in a label's text
-
-abbrev parts_by : Bool → ℕ → List ℕ → LabelWords
-parts_by some k t = cond some (record { level = take k t; cats = slice_split is_comma (drop (k + 1) t) }) (record { level = t; cats = [] })
-
--- a colon ends the level's name
-pub parts_colon : (b : ℕ) (bs : List ℕ) → is_colon b ≡ true → parts_of (b ∷ bs) ≡ record { level = []; cats = slice_split is_comma bs }
-parts_colon b bs e = ap (λ v. parts_by (v || list_any is_colon bs) (cond (not v) (1 + position_or_len is_colon bs) 0) (b ∷ bs)) e
-
--- a byte other than a colon continues the level's name
-pub parts_more : (b : ℕ) (bs : List ℕ) → is_colon b ≡ false → parts_of (b ∷ bs) ≡ record { level = b ∷ (parts_of bs).level; cats = (parts_of bs).cats }
-parts_more b bs e =
-    ap (λ v. parts_by (v || list_any is_colon bs) (cond (not v) (1 + position_or_len is_colon bs) 0) (b ∷ bs)) e
-    ∙ one_more (list_any is_colon bs) (position_or_len is_colon bs)
-  where
-    one_more : (v : Bool) (k : ℕ) → parts_by v (1 + k) (b ∷ bs) ≡ record { level = b ∷ (parts_by v k bs).level; cats = (parts_by v k bs).cats }
-    one_more true k = let e : 1 + k ≡ suc k = omega arith in let f : 1 + k + 1 ≡ suc (k + 1) = omega arith in λ i. record { level = take (e i) (b ∷ bs); cats = slice_split is_comma (drop (f i) (b ∷ bs)) }
-    one_more false k = refl
-
-no_colon : (b : ℕ) → is_name_part b ≡ true → is_colon b ≡ false
-no_colon b e = grind (arith, nat_tests)
-
-no_comma : (b : ℕ) → is_name_part b ≡ true → is_comma b ≡ false
-no_comma b e = grind (arith, nat_tests)
-
-letter_part : (b : ℕ) → is_letter b ≡ true → is_name_part b ≡ true
-letter_part b e = grind (arith, nat_tests)
-
-name_parts : (n : List ℕ) → is_label_name n ≡ true → list_all is_name_part n ≡ true
-name_parts [] h = refl
-name_parts (b ∷ bs) h =
-    let both = and_parts (is_letter b && nat_le (length bs) 30) (list_all is_name_part bs) h in
-    and_from (is_name_part b) (list_all is_name_part bs) (letter_part b (and_parts (is_letter b) (nat_le (length bs) 30) both.0).0) both.1
 
 without_commas : (n : List ℕ) → list_all is_name_part n ≡ true → All (λ x. is_comma x ≡ false) n
 without_commas [] h = All-nil (λ x. is_comma x ≡ false)
@@ -199,38 +222,59 @@ split_marked n (m ∷ ms) h all =
     let both = and_parts (is_label_name m) (list_all is_label_name ms) all in
     slice_split_at is_comma n 44 (m ++ past_mark 44 ms) (without_commas n (name_parts n h)) refl ∙ ap (λ ns. n ∷ ns) (split_marked m ms both.0 both.1)
 
-parts_prefix : (n t : List ℕ) → list_all is_name_part n ≡ true → parts_of (n ++ t) ≡ record { level = n ++ (parts_of t).level; cats = (parts_of t).cats }
-parts_prefix [] t h = refl
-parts_prefix (b ∷ bs) t h =
-    let both = and_parts (is_name_part b) (list_all is_name_part bs) h in
-    parts_more b (bs ++ t) (no_colon b both.0) ∙ ap (λ (w : LabelWords). record { level = b ∷ w.level; cats = w.cats }) (parts_prefix bs t both.1)
+-- names in the places of a level and of categories are read as these
+module _ (n : List ℕ) (ns : Names) (named : is_label_name n ≡ true) (all : list_all is_label_name ns ≡ true) where
+  level_read : before_first is_colon (n ++ past_mark 58 ns) ≡ n
+  level_read = before_past 58 n (past_mark 58 ns) (parts_all (λ b. not (b == 58)) (λ b h. ap not (no_colon b h)) n (name_parts n named)) ∙ ap (λ r. n ++ r) (none_before ns) ∙ append-nil n
+    where
+      none_before : (ns : Names) → before_first is_colon (past_mark 58 ns) ≡ []
+      none_before [] = refl
+      none_before (m ∷ ms) = refl
 
-parts_after : (ns : Names) → list_all is_label_name ns ≡ true → parts_of (past_mark 58 ns) ≡ record { level = []; cats = ns }
-parts_after [] all = refl
-parts_after (m ∷ ms) all =
-    let both = and_parts (is_label_name m) (list_all is_label_name ms) all in
-    parts_colon 58 (m ++ past_mark 44 ms) refl ∙ ap (λ ns. record { level = []; cats = ns }) (split_marked m ms both.0 both.1)
+  cats_read : pieces_of_rest 44 (after_first_of 58 (n ++ past_mark 58 ns)) ≡ ns
+  cats_read = ap (pieces_of_rest 44) (after_past 58 n (past_mark 58 ns) (parts_all (λ b. not (b == 58)) (λ b h. ap not (no_colon b h)) n (name_parts n named))) ∙ all_after ns all
+    where
+      all_after : (ns : Names) → list_all is_label_name ns ≡ true → pieces_of_rest 44 (after_first_of 58 (past_mark 58 ns)) ≡ ns
+      all_after [] all = refl
+      all_after (m ∷ ms) all = let both = and_parts (is_label_name m) (list_all is_label_name ms) all in split_marked m ms both.0 both.1
 
-parse_parts : (n : List ℕ) (ns : Names) → is_label_name n ≡ true → list_all is_label_name ns ≡ true → parts_of (n ++ past_mark 58 ns) ≡ record { level = n; cats = ns }
-parse_parts n ns h all =
-    parts_prefix n (past_mark 58 ns) (name_parts n h) ∙ ap (λ (w : LabelWords). record { level = n ++ w.level; cats = w.cats }) (parts_after ns all)
-    ∙ ap (λ l. record { level = l; cats = ns }) (append-nil n)
+  without_slash : list_all (λ b. not (b == 47)) (n ++ past_mark 58 ns) ≡ true
+  without_slash = list_all-append (λ b. not (b == 47)) n (past_mark 58 ns)
+      ∙ and_from _ _ (parts_all (λ b. not (b == 47)) (λ b h. ap not (no_slash b h)) n (name_parts n named)) (marked_all (λ b. not (b == 47)) (λ b h. ap not (no_slash b h)) 58 ns refl refl all)
 
-parse_words : (n : List ℕ) (ns : Names) → is_label_name n ≡ true → list_all is_label_name ns ≡ true → label_words (n ++ past_mark 58 ns) ≡ Some (record { level = n; cats = ns })
-unfolding label_words
-parse_words n ns h all =
-    ap (λ (w : LabelWords). cond (is_label_name w.level && list_all is_label_name w.cats) (Some w) None) (parse_parts n ns h all)
-    ∙ ap (λ v. cond v (Some (record { level = n; cats = ns })) None) (and_from (is_label_name n) (list_all is_label_name ns) h all)
+  parts_read : (g : Option (List ℕ)) → parts_of ((n ++ past_mark 58 ns) ++ past_slash g) ≡ record { level = n; cats = ns; grade = g }
+  parts_read g =
+      let before : before_slash ((n ++ past_mark 58 ns) ++ past_slash g) ≡ n ++ past_mark 58 ns = before_past 47 (n ++ past_mark 58 ns) (past_slash g) without_slash ∙ ap (λ r. (n ++ past_mark 58 ns) ++ r) (none_before g) ∙ append-nil (n ++ past_mark 58 ns) in
+      let after : after_first_of 47 ((n ++ past_mark 58 ns) ++ past_slash g) ≡ g = after_past 47 (n ++ past_mark 58 ns) (past_slash g) without_slash ∙ all_after g in
+      λ i. record {
+        level = (ap (before_first is_colon) before ∙ level_read) i;
+        cats = (ap (λ t. pieces_of_rest 44 (after_first_of 58 t)) before ∙ cats_read) i;
+        grade = after i;
+      }
+    where
+      none_before : (g : Option (List ℕ)) → before_slash (past_slash g) ≡ []
+      none_before None = refl
+      none_before (Some w) = refl
 
--- the name of a level denotes that level, with no category
-pub level_parsed : (p : PolicyNames) (text : List ℕ) (level : ℕ) (cats : CatSet) → place_of p.levels text ≡ Some level → is_label_name text ≡ true → cats ≡ no_cats
-    → parse_label p text ≡ Some (record { first = level; second = cats })
+      all_after : (g : Option (List ℕ)) → after_first_of 47 (past_slash g) ≡ g
+      all_after None = refl
+      all_after (Some w) = refl
+
+  parse_words : (g : Option (List ℕ)) → list_all is_label_name (option_to_list g) ≡ true → label_words ((n ++ past_mark 58 ns) ++ past_slash g) ≡ Some (record { level = n; cats = ns; grade = g })
+  unfolding label_words
+  parse_words g graded =
+      ap (λ (w : LabelWords). cond (are_names w) (Some w) None) (parts_read g)
+      ∙ ap (λ v. cond v (Some (record { level = n; cats = ns; grade = g })) None) (and_from _ _ (and_from (is_label_name n) (list_all is_label_name ns) named all) graded)
+
+-- the name of a level denotes that level, with no category and the highest grade
+pub level_parsed : (p : PolicyNames) (text : List ℕ) (level : ℕ) (cats : CatSet) (grade : Grade) → place_of p.levels text ≡ Some level → is_label_name text ≡ true → cats ≡ no_cats → grade ≡ highest_grade
+    → parse_label p text ≡ Some (record { first = record { first = level; second = cats }; second = record { inner = grade } })
 unfolding parse_label
-level_parsed p text level cats placed named none =
-    ap (λ t. option_and_then (label_of p) (label_words t)) (sym (append-nil text))
-    ∙ ap (option_and_then (label_of p)) (parse_words text [] named refl)
-    ∙ ap (λ o. labelled o (Some [])) placed
-    ∙ ap (λ (c : CatSet). Some (record { first = level; second = c })) (sym none)
+level_parsed p text level cats grade placed named none highest =
+    ap (λ t. option_and_then (label_of p) (label_words t)) (sym (append-nil (text ++ []) ∙ append-nil text))
+    ∙ ap (option_and_then (label_of p)) (parse_words text [] named refl None refl)
+    ∙ ap (λ o. labelled o (Some []) (Some highest_grade)) placed
+    ∙ (λ i. Some (record { first = record { first = level; second = sym none i }; second = record { inner = sym highest i } }))
 
 -- ---- the categories in a label's text
 
@@ -293,13 +337,57 @@ numbers_back cats ns within = same_cats _ cats (λ q. set.contains-from_list_nat
     all_there true q k within = let below = within refl in grind (arith, nat_tests)
     all_there false q k within = refl
 
--- a text is the name of a level, with names of categories after marks
+-- a name in a list of names is one
+named_here : (names : Names) (i : ℕ) → list_all is_label_name names ≡ true → i < length names → is_label_name (get_or names i []) ≡ true
+named_here names i named within = true_from_ne_false _ (λ e. both_ways (list_all is_label_name names) (list_all_at is_label_name names i [] within e) named)
+
+-- ---- the grade in a label's text
+
+-- a grade that is not below the lowest has the name at a place
+named_at : (names : Names) (grade : Grade) → length names ≤ 16 → (lowest_grade names).number ≤ grade.number → (grade.number == 15) ≡ false → 16 ≤ grade.number + length names
+named_at names grade few low other = let bound = grade.low in let apart = below_highest grade.number other in omega arith
+  where
+    below_highest : (n : ℕ) → (n == 15) ≡ false → n ≡ 15 → ⊥
+    below_highest n e s = absurd (both_ways (n == 15) e (eq_test n s))
+      where
+        eq_test : (n : ℕ) → n ≡ 15 → (n == 15) ≡ true
+        eq_test n s = grind (arith, nat_tests)
+
+-- the name that is written for a grade denotes it
+written_back : (names : Names) (grade : Grade) → length names ≤ 16 → are_distinct names ≡ true → (lowest_grade names).number ≤ grade.number → grade_named names (written_grade names grade) ≡ Some grade
+written_back names grade few apart low = by_highest (grade.number == 15) refl
+  where
+    by_highest : (v : Bool) → (grade.number == 15) ≡ v → grade_named names (cond v None (Some (grade_name names grade))) ≡ Some grade
+    by_highest true e = let same = eqb-true grade.number 15 e in ap Some (same_grades highest_grade grade (omega arith))
+    by_highest false e =
+        let here = named_at names grade few low e in
+        let bound = grade.low in
+        let i : ℕ = grade.number + length names - 16 in
+        let name : grade_name names grade ≡ get_or names (grade.number + length names - 16) [] = ap (λ v. cond v [] (get_or names (grade.number + length names - 16) [])) (le-ltb (grade.number + length names) 16 here) in
+        ap (λ w. option_map (grade_at names) (place_of names w)) name
+        ∙ ap (option_map (grade_at names)) (place_of_own names (grade.number + length names - 16) apart (omega arith))
+        ∙ ap Some (same_grades (grade_at names (grade.number + length names - 16)) grade (omega arith))
+
+written_named : (names : Names) (grade : Grade) → length names ≤ 16 → list_all is_label_name names ≡ true → (lowest_grade names).number ≤ grade.number → list_all is_label_name (option_to_list (written_grade names grade)) ≡ true
+written_named names grade few named low = by_highest (grade.number == 15) refl
+  where
+    by_highest : (v : Bool) → (grade.number == 15) ≡ v → list_all is_label_name (option_to_list (cond v None (Some (grade_name names grade)))) ≡ true
+    by_highest true e = refl
+    by_highest false e =
+        let here = named_at names grade few low e in
+        let bound = grade.low in
+        let name : grade_name names grade ≡ get_or names (grade.number + length names - 16) [] = ap (λ v. cond v [] (get_or names (grade.number + length names - 16) [])) (le-ltb (grade.number + length names) 16 here) in
+        and_from _ true (ap is_label_name name ∙ named_here names (grade.number + length names - 16) named (omega arith)) refl
+
+-- a text is the name of a level, with names of categories after marks, and the name of a grade after a slash
 pub record AreWritten (text : List ℕ) : Type 0 where
   pub level : List ℕ
   pub cats : Names
-  pub text_is : text ≡ level ++ past_mark 58 cats
+  pub grade : Option (List ℕ)
+  pub text_is : text ≡ (level ++ past_mark 58 cats) ++ past_slash grade
   pub level_name : is_label_name level ≡ true
   pub cat_names : list_all is_label_name cats ≡ true
+  pub grade_names : list_all is_label_name (option_to_list grade) ≡ true
 
 -- the text of a valid label is made of such names
 pub text_names : (p : PolicyNames) (label : Label) → MakePolicy p → is_valid p label ≡ true → AreWritten (label_text p label)
@@ -307,15 +395,17 @@ unfolding label_text
 text_names p label h valid =
     let levels = policy_facts p h Levels in
     let cats = policy_facts p h Categories in
+    let grades = policy_facts p h Grades in
     let some = some_level p h in
     let level = valid_level p label valid in
-    let within : label.first < length p.levels = omega arith in
     record {
-      level = get_or p.levels label.first [];
-      cats = names_in label.second 0 p.cats;
+      level = get_or p.levels label.first.first [];
+      cats = names_in label.first.second 0 p.cats;
+      grade = written_grade p.grades label.second.inner;
       text_is = refl;
-      level_name = true_from_ne_false _ (λ e. both_ways (list_all is_label_name p.levels) (list_all_at is_label_name p.levels label.first [] within e) levels.named);
-      cat_names = names_in_names label.second 0 p.cats cats.named;
+      level_name = named_here p.levels label.first.first levels.named (omega arith);
+      cat_names = names_in_names label.first.second 0 p.cats cats.named;
+      grade_names = written_named p.grades label.second.inner grades.few grades.named (valid_grade p label valid);
     }
 
 -- a label's text denotes that label
@@ -324,10 +414,11 @@ unfolding parse_label label_text text_names
 parse_text p label h valid =
     let levels = policy_facts p h Levels in
     let cats = policy_facts p h Categories in
+    let grades = policy_facts p h Grades in
     let some = some_level p h in
     let level = valid_level p label valid in
-    let within : label.first < length p.levels = omega arith in
+    let within : label.first.first < length p.levels = omega arith in
     let names = text_names p label h valid in
-    ap (option_and_then (label_of p)) (ap label_words names.text_is ∙ parse_words names.level names.cats names.level_name names.cat_names)
-    ∙ (λ i. labelled (place_of_own p.levels label.first levels.apart within i) (places_named p.cats label.second 0 p.cats cats.apart refl i))
-    ∙ ap (λ (cats : CatSet). Some (record { first = label.first; second = cats })) (numbers_back label.second p.cats (valid_cats p label valid))
+    ap (option_and_then (label_of p)) (ap label_words names.text_is ∙ parse_words names.level names.cats names.level_name names.cat_names names.grade names.grade_names)
+    ∙ (λ i. labelled (place_of_own p.levels label.first.first levels.apart within i) (places_named p.cats label.first.second 0 p.cats cats.apart refl i) (written_back p.grades label.second.inner grades.few grades.apart (valid_grade p label valid) i))
+    ∙ ap (λ (cats : CatSet). Some (record { first = record { first = label.first.first; second = cats }; second = label.second })) (numbers_back label.first.second p.cats (valid_cats p label valid))

@@ -14,7 +14,7 @@ use Rattle.lab_text.specs.Names.{Names, same_bytes, is_label_name, are_distinct,
 use Rattle.lab_text.specs.Lists.{all_lists, limit_of, needs_names}
 use Rattle.lab_text.specs.Policy.{PolicyNames, names_of, with_names, no_names, names_fault, MakePolicy}
 use Rattle.lab_text.specs.declared.lists.NameList.{NameList}
-use Rattle.lab_text.specs.declared.lists.NameList.TheVariants.{Levels, Categories}
+use Rattle.lab_text.specs.declared.lists.NameList.TheVariants.{Levels, Categories, Grades}
 
 -- ---- each list
 
@@ -27,19 +27,21 @@ pub record HasListFacts (list : NameList) (names : Names) : Type 0 where
 
 -- what holds of all lists holds of each
 every_list : (f : NameList → Bool) → list_all f all_lists ≡ true → (list : NameList) → f list ≡ true
-every_list f h Levels = (and_parts (f Levels) (f Categories && true) h).0
-every_list f h Categories = (and_parts (f Categories) true (and_parts (f Levels) (f Categories && true) h).1).0
+every_list f h Levels = (and_parts (f Levels) (f Categories && (f Grades && true)) h).0
+every_list f h Categories = (and_parts (f Categories) (f Grades && true) (and_parts (f Levels) (f Categories && (f Grades && true)) h).1).0
+every_list f h Grades = (and_parts (f Grades) true (and_parts (f Categories) (f Grades && true) (and_parts (f Levels) (f Categories && (f Grades && true)) h).1).1).0
 
 -- what holds of no list doesn't hold of any
 no_list : (f : NameList → Bool) → list_any f all_lists ≡ false → (list : NameList) → f list ≡ false
-no_list f h Levels = (or_parts (f Levels) (f Categories || false) h).0
-no_list f h Categories = (or_parts (f Categories) false (or_parts (f Levels) (f Categories || false) h).1).0
+no_list f h Levels = (or_parts (f Levels) (f Categories || (f Grades || false)) h).0
+no_list f h Categories = (or_parts (f Categories) (f Grades || false) (or_parts (f Levels) (f Categories || (f Grades || false)) h).1).0
+no_list f h Grades = (or_parts (f Grades) false (or_parts (f Categories) (f Grades || false) (or_parts (f Levels) (f Categories || (f Grades || false)) h).1).1).0
 
 all_lists_from : (f : NameList → Bool) → ((list : NameList) → f list ≡ true) → list_all f all_lists ≡ true
-all_lists_from f h = and_from (f Levels) (f Categories && true) (h Levels) (and_from (f Categories) true (h Categories) refl)
+all_lists_from f h = and_from (f Levels) (f Categories && (f Grades && true)) (h Levels) (and_from (f Categories) (f Grades && true) (h Categories) (and_from (f Grades) true (h Grades) refl))
 
 no_lists_from : (f : NameList → Bool) → ((list : NameList) → f list ≡ false) → list_any f all_lists ≡ false
-no_lists_from f h = or_from (f Levels) (f Categories || false) (h Levels) (or_from (f Categories) false (h Categories) refl)
+no_lists_from f h = or_from (f Levels) (f Categories || (f Grades || false)) (h Levels) (or_from (f Categories) (f Grades || false) (h Categories) (or_from (f Grades) false (h Grades) refl))
 
 -- what holds of each list of names that make a policy
 pub policy_facts : (p : PolicyNames) → MakePolicy p → (list : NameList) → HasListFacts list (names_of p list)
@@ -72,13 +74,23 @@ at_least_one n h = grind (arith, nat_tests)
 pub some_level : (p : PolicyNames) → MakePolicy p → 1 ≤ length p.levels
 some_level p h = at_least_one (length p.levels) (policy_facts p h Levels).enough
 
--- the levels of a policy make one without categories
+-- the levels of a policy make one without categories and grades
 pub levels_alone : (p : PolicyNames) → MakePolicy p → MakePolicy (with_names no_names Levels p.levels)
 levels_alone p h = policy_made (with_names no_names Levels p.levels) each
   where
     each : (list : NameList) → HasListFacts list (names_of (with_names no_names Levels p.levels) list)
     each Levels = policy_facts p h Levels
     each Categories = record { enough = refl; few = omega arith; named = refl; apart = refl }
+    each Grades = record { enough = refl; few = omega arith; named = refl; apart = refl }
+
+-- the names of a policy make one without grades too
+pub without_grades : (p : PolicyNames) → MakePolicy p → MakePolicy (with_names p Grades [])
+without_grades p h = policy_made (with_names p Grades []) each
+  where
+    each : (list : NameList) → HasListFacts list (names_of (with_names p Grades []) list)
+    each Levels = policy_facts p h Levels
+    each Categories = policy_facts p h Categories
+    each Grades = record { enough = refl; few = omega arith; named = refl; apart = refl }
 
 -- ---- places
 

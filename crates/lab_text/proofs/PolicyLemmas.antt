@@ -1,15 +1,16 @@
--- The levels and categories of a policy, as numbers and sets.
+-- The levels, categories and grades of a policy, as numbers and sets.
 use Rattle.std.proofs.Common.{◌≡◌, ℕ, ◌+◌, ◌-◌, ◌≤◌, ◌<◌, false, ◌==◌, ◌||◌, nat_lt, List, length, Option, Some, None, ap, sym, ◌∙◌, arith}
 use Rattle.std.specs.Prelude.{◌↔◌, IsSome, IfSome}
 use Rattle.std.specs.FinSet as set
 use Rattle.std.specs.List.{range_with_len}
 use Rattle.std.proofs.lemmas.Bool.Decides.{nat_tests}
 use Rattle.lab_lattice.specs.Cats.{CatSet, has_cat, no_cats, one_cat, cats_join}
+use Rattle.lab_lattice.specs.Grade.{Grade, same_grades, grade_of, highest_grade}
 use Rattle.lab_lattice.specs.Laws.{has-cats_join, same_cats}
 use Rattle.lab_lattice.proofs.CatSets.{has-no_cats, has-one_cat}
-use Rattle.lab_text.specs.Names.{same_bytes, place_of}
+use Rattle.lab_text.specs.Names.{Names, same_bytes, place_of}
 use Rattle.lab_text.specs.declared.lists.NameList.TheVariants.{Levels, Categories}
-use Rattle.lab_text.specs.Policy.{PolicyNames, MakePolicy, top_of}
+use Rattle.lab_text.specs.Policy.{PolicyNames, MakePolicy, lowest_grade, top_of}
 use Rattle.fs_path.proofs.SplitLemmas.{position_found}
 use Rattle.lab_text.proofs.PolicyFacts.{policy_facts}
 use Rattle.lab_text.proofs.Parsed.{has-first_cats}
@@ -32,10 +33,25 @@ pub if_some : {A : Type 0} {P : Type 0} (r : Option A) → P → IfSome r (λ _.
 if_some None p = tt
 if_some (Some y) p = p
 
--- the top label of a policy has its last level, and the categories below their count
-pub is_top : (p : PolicyNames) (level : ℕ) (cats : CatSet) (n m : ℕ) → level ≡ n - 1 → n ≡ length p.levels → cats ≡ set.from_list (range_with_len 0 m) → m ≡ length p.cats → record { first = level; second = cats } ≡ top_of p
+-- the top label of a policy has its last level, the categories below their count, and its lowest grade
+pub is_top : (p : PolicyNames) (level : ℕ) (cats : CatSet) (grade : Grade) (n m : ℕ) → level ≡ n - 1 → n ≡ length p.levels → cats ≡ set.from_list (range_with_len 0 m) → m ≡ length p.cats → grade ≡ lowest_grade p.grades
+    → record { first = record { first = level; second = cats }; second = record { inner = grade } } ≡ top_of p
 unfolding top_of
-is_top p level cats n m e f g h = λ i. record { first = (e ∙ ap (λ k. k - 1) f) i; second = (g ∙ ap (λ k. set.from_list (range_with_len 0 k)) h) i }
+is_top p level cats grade n m e f g h k = λ i. record {
+  first = record { first = (e ∙ ap (λ k. k - 1) f) i; second = (g ∙ ap (λ k. set.from_list (range_with_len 0 k)) h) i };
+  second = record { inner = k i };
+}
+
+-- ---- grades
+
+-- where no grade has a name, there is the highest alone
+pub no_grades : (names : Names) → length names ≡ 0 → highest_grade ≡ lowest_grade names
+no_grades names h = same_grades highest_grade (lowest_grade names) (omega arith)
+
+-- a grade with a number that there is
+pub graded : (r : Option Grade) (n : ℕ) → (IsSome r ↔ (n ≤ 15)) → IfSome r (λ g. g.number ≡ n) → n ≤ 15 → r ≡ Some (grade_of n)
+graded None n s i h = let some = s.1 h in absurd (cc)
+graded (Some g) n s i h = let same : g.number ≡ n = i in ap Some (same_grades g (grade_of n) (omega arith))
 
 -- ---- the categories below a number
 

@@ -1,4 +1,4 @@
--- The names of levels and categories.
+-- The names of levels, categories and grades.
 use Rattle.std.specs.Prelude.{ℕ, Bool, true, false, not, ◌&&◌, ◌||◌, ◌==◌, nat_le, List, [], ◌∷◌, length, Option, position}
 use Rattle.std.specs.Cmp.Lexicographic.{pointwise}
 use Rattle.std.specs.List.{list_all, list_any}
@@ -17,7 +17,7 @@ is_letter b = (nat_le 65 b && nat_le b 90) || (nat_le 97 b && nat_le b 122)
 abbrev pub is_name_part : ℕ → Bool
 is_name_part b = is_letter b || (nat_le 48 b && nat_le b 57) || b == 95 || b == 45
 
--- the name of a level or a category: a letter, and up to 30 name parts
+-- the name of a level, a category or a grade: a letter, and up to 30 name parts
 abbrev pub is_label_name : List ℕ → Bool
 is_label_name [] = false
 is_label_name (b ∷ bs) = is_letter b && nat_le (length bs) 30 && list_all is_name_part bs

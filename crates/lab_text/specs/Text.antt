@@ -1,20 +1,21 @@
--- The text of a label: `level`, or `level:category,category`.
-use Rattle.std.specs.Prelude.{◌≡◌, ℕ, ◌+◌, ◌≤◌, ◌<◌, Bool, true, false, ◌&&◌, ◌==◌, cond, List, [], ◌∷◌, ◌++◌, length, take, get_or, Option, None, Some, option_and_then, is_some}
-use Rattle.std.specs.Option.{option_map}
-use Rattle.std.specs.FinSet as set
-use Rattle.std.specs.List.{list_all, list_any, before_first, after_first, slice_split}
+-- The text of a label: `level`, `level:category,category`, `level/grade` or `level:category,category/grade`.
+use Rattle.std.specs.Prelude.{◌≡◌, ℕ, ◌+◌, ◌-◌, ◌≤◌, ◌<◌, Bool, true, false, ◌&&◌, ◌==◌, nat_lt, cond, List, [], ◌∷◌, ◌++◌, length, take, get_or, Option, None, Some, option_and_then, is_some}
+use Rattle.std.specs.Option.{option_map, option_or, option_to_list}
+use Rattle.std.specs.List.{list_all, list_any, before_first}
+use Rattle.fs_path.specs.Split.{pieces_of_rest, after_first_of}
 use Rattle.lab_lattice.specs.Cats.{CatSet, has_cat}
+use Rattle.lab_lattice.specs.Grade.{Grade, highest_grade}
 use Rattle.lab_lattice.specs.Label.{Label}
 use Rattle.lab_text.specs.Names.{Names, is_label_name, same_bytes, place_of}
-use Rattle.lab_text.specs.Policy.{PolicyNames}
+use Rattle.lab_text.specs.Policy.{PolicyNames, grade_at, label_with}
 use Rattle.lab_text.specs.declared.text.LabelError.{LabelError}
 use Rattle.lab_text.specs.declared.text.LabelError.TheVariants as error
 
+abbrev pub is_slash : ℕ → Bool
+is_slash b = b == 47
+
 abbrev pub is_colon : ℕ → Bool
 is_colon b = b == 58
-
-abbrev pub is_comma : ℕ → Bool
-is_comma b = b == 44
 
 -- ---- the grammar
 
@@ -22,16 +23,28 @@ is_comma b = b == 44
 pub record LabelWords : Type 0 where
   pub level : List ℕ
   pub cats : Names
+  pub grade : Option (List ℕ)
 
--- the text before a colon, and the pieces between commas after it
+-- the text before a slash
+abbrev pub before_slash : List ℕ → List ℕ
+before_slash text = before_first is_slash text
+
+-- the text before a colon, the pieces between commas after it, and the text after a slash
 abbrev pub parts_of : List ℕ → LabelWords
-parts_of text = cond (list_any is_colon text)
-    (record { level = before_first is_colon text; cats = slice_split is_comma (after_first is_colon text) })
-    (record { level = text; cats = [] })
+parts_of text = record {
+  level = before_first is_colon (before_slash text);
+  cats = pieces_of_rest 44 (after_first_of 58 (before_slash text));
+  grade = after_first_of 47 text;
+}
 
--- the names in a text that has the form of a label's: a name, or a name, `:` and a comma list of names
+-- whether each can be the name of its part
+abbrev pub are_names : LabelWords → Bool
+are_names w = is_label_name w.level && list_all is_label_name w.cats && list_all is_label_name (option_to_list w.grade)
+
+-- the names in a text that has the form of a label's: a name, then `:` and a comma list of names or nothing, then `/` and a name or
+-- nothing
 unfoldable pub label_words : List ℕ → Option LabelWords
-label_words text = cond (is_label_name (parts_of text).level && list_all is_label_name (parts_of text).cats) (Some (parts_of text)) None
+label_words text = cond (are_names (parts_of text)) (Some (parts_of text)) None
 
 -- whether a text has the form of a label's
 abbrev pub is_label_text : List ℕ → Bool
@@ -44,9 +57,18 @@ abbrev pub places_of : Names → Names → Option (List ℕ)
 places_of names [] = Some []
 places_of names (w ∷ ws) = option_and_then (λ i. option_map (λ is. i ∷ is) (places_of names ws)) (place_of names w)
 
--- the label of a level's name and categories' names
+-- the grade of a name, where it is in its list, and 15 where no grade is named
+abbrev pub grade_named : Names → Option (List ℕ) → Option Grade
+grade_named names None = Some highest_grade
+grade_named names (Some word) = option_map (grade_at names) (place_of names word)
+
+-- the label of a level, categories and a grade, where there are all of these
+abbrev pub labelled : Option ℕ → Option (List ℕ) → Option Grade → Option Label
+labelled level cats grade = option_and_then (λ level. option_and_then (λ cats. option_map (label_with level cats) grade) cats) level
+
+-- the label of names
 abbrev pub label_of : PolicyNames → LabelWords → Option Label
-label_of p w = option_and_then (λ level. option_map (λ cats. record { first = level; second = set.from_list cats }) (places_of p.cats w.cats)) (place_of p.levels w.level)
+label_of p w = labelled (place_of p.levels w.level) (places_of p.cats w.cats) (grade_named p.grades w.grade)
 
 -- the label that a text denotes
 unfoldable pub parse_label : PolicyNames → List ℕ → Option Label
@@ -72,14 +94,17 @@ abbrev pub first_unknown : Names → ℕ → Names → Option ℕ
 first_unknown known at [] = None
 first_unknown known at (w ∷ ws) = cond (list_any (same_bytes w) known) (first_unknown known (at + length w + 1) ws) (Some at)
 
--- the first name that the policy does not know
-abbrev pub unknown_in : PolicyNames → LabelWords → Option LabelError
-unknown_in p w = cond (list_any (same_bytes w.level) p.levels) (option_map error.UnknownCategory (first_unknown p.cats (length w.level + 1) w.cats)) (Some (error.UnknownLevel 0))
+-- the first name that the policy does not know, in a text of these names
+abbrev pub unknown_in : PolicyNames → List ℕ → LabelWords → Option LabelError
+unknown_in p text w =
+    option_or (option_map error.UnknownLevel (first_unknown p.levels 0 (w.level ∷ [])))
+    (option_or (option_map error.UnknownCategory (first_unknown p.cats (length w.level + 1) w.cats))
+    (option_map error.UnknownGrade (first_unknown p.grades (length (before_slash text) + 1) (option_to_list w.grade))))
 
 -- a text denotes no label for this cause: its form, and only then its first unknown name
 abbrev pub SaysNone : PolicyNames → List ℕ → LabelError → Type 0
 SaysNone p text (error.Syntax at) = Breaks text at
-SaysNone p text e = option_and_then (unknown_in p) (label_words text) ≡ Some e
+SaysNone p text e = option_and_then (unknown_in p text) (label_words text) ≡ Some e
 
 -- ---- the text that is written
 
@@ -93,6 +118,19 @@ abbrev pub past_mark : ℕ → Names → List ℕ
 past_mark mark [] = []
 past_mark mark (n ∷ ns) = mark ∷ n ++ past_mark 44 ns
 
--- the level's name, and after a colon the names of the categories in the policy's order
+-- the name of a grade, or no bytes where it has none
+abbrev pub grade_name : Names → Grade → List ℕ
+grade_name names grade = cond (nat_lt (grade.number + length names) 16) [] (get_or names (grade.number + length names - 16) [])
+
+-- the name that is written for a grade: none for 15
+abbrev pub written_grade : Names → Grade → Option (List ℕ)
+written_grade names grade = cond (grade.number == 15) None (Some (grade_name names grade))
+
+-- a slash and a name, if there is one
+abbrev pub past_slash : Option (List ℕ) → List ℕ
+past_slash None = []
+past_slash (Some n) = 47 ∷ n
+
+-- the level's name, after a colon the names of the categories in the policy's order, and after a slash the grade's name
 unfoldable pub label_text : PolicyNames → Label → List ℕ
-label_text p label = get_or p.levels label.first [] ++ past_mark 58 (names_in label.second 0 p.cats)
+label_text p label = (get_or p.levels label.first.first [] ++ past_mark 58 (names_in label.first.second 0 p.cats)) ++ past_slash (written_grade p.grades label.second.inner)

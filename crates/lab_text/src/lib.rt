@@ -1,4 +1,4 @@
-//! The texts of labels, by the names that a world gives to levels and categories.
+//! The texts of labels, by the names that a world gives to levels, categories and grades.
 #![tactic(auto)]
 
 mod lists;

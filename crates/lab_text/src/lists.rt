@@ -1,6 +1,8 @@
 // The lists of names that a policy has.
 ghost use Rattle.std.specs.Prelude.{◌≡◌};
-ghost use Rattle.lab_text.specs.Lists.{next_list, keyword_of, limit_of, needs_names};
+ghost use Rattle.lab_text.specs.Lists.{next_list, keyword_of, limit_of, needs_names, line_is_optional};
+
+use crate::policy::MAX_GRADES;
 
 /// A list of names that a policy has.
 #[derive(Clone, Copy, Debug, PartialEq, Eq)]
@@ -9,11 +11,13 @@ pub enum NameList {
     Levels,
     /// The names of the categories.
     Categories,
+    /// The names of the grades, lowest first. Without names there is one grade.
+    Grades,
 }
 
 impl NameList {
     /// The lists in the order of their lines.
-    pub const ALL: [NameList; 2] = [NameList::Levels, NameList::Categories];
+    pub const ALL: [NameList; 3] = [NameList::Levels, NameList::Categories, NameList::Grades];
 
     /// The list whose line comes next.
     pub fn next(self) -> Option<NameList>
@@ -21,7 +25,8 @@ impl NameList {
     {
         match self {
             NameList::Levels => Some(NameList::Categories),
-            NameList::Categories => None,
+            NameList::Categories => Some(NameList::Grades),
+            NameList::Grades => None,
         }
     }
 
@@ -32,6 +37,7 @@ impl NameList {
         match self {
             NameList::Levels => b"levels",
             NameList::Categories => b"categories",
+            NameList::Grades => b"grades",
         }
     }
 
@@ -42,6 +48,7 @@ impl NameList {
         match self {
             NameList::Levels => 16,
             NameList::Categories => 64,
+            NameList::Grades => MAX_GRADES,
         }
     }
 
@@ -50,5 +57,12 @@ impl NameList {
         ensures { result ≡ needs_names self }
     {
         matches!(self, NameList::Levels)
+    }
+
+    /// Whether it has no line where it has no names.
+    pub fn line_is_optional(self) -> bool
+        ensures { result ≡ line_is_optional self }
+    {
+        matches!(self, NameList::Grades)
     }
 }

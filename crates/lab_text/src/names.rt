@@ -1,4 +1,4 @@
-// What a level or a category may be called.
+// What a level, a category or a grade may be called.
 ghost use Rattle.std.specs.Prelude.{◌≡◌};
 ghost use Rattle.std.specs.List.{list_all};
 ghost use Rattle.lab_text.specs.Names.{is_letter, is_name_part, is_label_name};
@@ -21,7 +21,7 @@ fn are_name_parts(bytes: &[u8]) -> bool
     bytes.iter().all(|byte| is_name_part(*byte))
 }
 
-/// Whether a level or a category may have this name.
+/// Whether a level, a category or a grade may have this name.
 pub fn is_label_name(word: &[u8]) -> bool
     ensures { result ≡ is_label_name word.now }
 {

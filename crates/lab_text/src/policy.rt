@@ -1,4 +1,4 @@
-// The names that a world gives to levels and categories.
+// The names that a world gives to levels, categories and grades.
 ghost use Rattle.std.specs.Prelude.{◌≡◌, ◌-◌, ◌≤◌, ◌&&◌, ◌==◌, nat_lt, true, length, MatchResult, IfOk, IfErr, IfSome};
 ghost use Rattle.std.specs.FinSet as set;
 ghost use Rattle.std.specs.List.{list_any, list_all, range_with_len};
@@ -7,25 +7,28 @@ ghost use Rattle.lab_lattice.specs.Cats.{one_cat};
 ghost use Rattle.lab_lattice.specs.Label.{bottom};
 ghost use Rattle.lab_text.specs.Lists.{all_lists, limit_of, needs_names};
 ghost use Rattle.lab_text.specs.Names.{same_bytes, is_label_name, are_distinct, place_of};
-ghost use Rattle.lab_text.specs.Policy.{names_of, with_names, no_names, names_fault, MakeNone, MakePolicy, top_of, is_valid};
+ghost use Rattle.lab_text.specs.Policy.{names_of, with_names, no_names, names_fault, MakeNone, MakePolicy, grade_at, lowest_grade, top_of, is_valid};
 
 use crate::names::is_label_name;
 use crate::{NameList, NoMemory, Word};
 use fs_path::List;
-use lab_lattice::{Cats, Label, Lattice, Level, Pair};
+use lab_lattice::{Cats, Dual, Grade, Label, Lattice, Level, Pair};
 use std::alloc::Global;
 use std::marker::Model;
+
+// The most grades that a policy has names for.
+pub(crate) const MAX_GRADES: usize = 16;
 
 /// Why names make no policy.
 #[derive(Clone, Copy, Debug, PartialEq, Eq)]
 pub enum PolicyError {
     /// There is no level.
     Empty,
-    /// There are more than 16 levels or more than 64 categories.
+    /// There are more than 16 levels, 64 categories or 16 grades.
     TooMany,
     /// A name has no bytes or more than 31, does not begin with a letter, or has a byte besides letters, digits, `_` and `-`.
     BadName,
-    /// Two levels or two categories have one name.
+    /// Two levels, two categories or two grades have one name.
     Repeated,
     /// Memory ran out.
     NoMemory(NoMemory),
@@ -36,11 +39,16 @@ pub enum PolicyError {
 pub struct PolicyNames {
     levels: Vec<Word>,
     cats: Vec<Word>,
+    grades: Vec<Word>,
 }
 
 impl Drop for PolicyNames {
     fn drop(self) {
-        let PolicyNames { levels: _, cats: _ } = self;
+        let PolicyNames {
+            levels: _,
+            cats: _,
+            grades: _,
+        } = self;
     }
 }
 
@@ -49,10 +57,12 @@ impl Model for PolicyNames {
 
     ghost Value = { PolicyNames };
 
-    ghost view = { λ p. record { levels = p.levels.items; cats = p.cats.items } };
+    ghost view = { λ p. record { levels = p.levels.items; cats = p.cats.items; grades = p.grades.items } };
 }
 
-/// The names of a world's levels, lowest first, and of its categories. The number of each is its place in its list, from 0.
+/// The names of a world's levels, lowest first, of its categories, and of its grades, lowest first. The number of a level or a
+/// category is its place in its list, from 0. The last grade has the number 15, the one before it 14, and so on; where no grade
+/// has a name, there is the grade 15 alone.
 #[derive(Debug)]
 pub struct Policy {
     names: PolicyNames,
@@ -86,7 +96,7 @@ fn place_of(names: &[Word], name: &[u8]) -> Option<usize>
     names.iter().position(|word| name == word.bytes())
 }
 
-/// Whether levels or categories may have these names.
+/// Whether levels, categories or grades may have these names.
 pub fn are_label_names(names: &[Word]) -> bool
     ensures { result ≡ list_all is_label_name names.now }
 {
@@ -108,6 +118,7 @@ fn are_distinct(names: &[Word]) -> bool
 struct LentNames<'a> {
     levels: &'a [Word],
     cats: &'a [Word],
+    grades: &'a [Word],
 }
 
 impl<'a> Model for LentNames<'a> {
@@ -115,7 +126,7 @@ impl<'a> Model for LentNames<'a> {
 
     ghost Value = { PolicyNames };
 
-    ghost view = { λ p. record { levels = p.levels.now; cats = p.cats.now } };
+    ghost view = { λ p. record { levels = p.levels.now; cats = p.cats.now; grades = p.grades.now } };
 }
 
 impl LentNames<'_> {
@@ -125,6 +136,7 @@ impl LentNames<'_> {
         match list {
             NameList::Levels => self.levels,
             NameList::Categories => self.cats,
+            NameList::Grades => self.grades,
         }
     }
 
@@ -146,7 +158,7 @@ impl LentNames<'_> {
             .any(|list| self.names(*list).len() > list.limit())
     }
 
-    // Whether each name can be the name of a level or a category.
+    // Whether each name can be the name of a level, a category or a grade.
     fn are_label_names(&self) -> bool
         ensures { result ≡ list_all (λ list. list_all is_label_name (names_of self.now list)) all_lists }
     {
@@ -195,6 +207,17 @@ fn copies(alloc: Global, words: &[Word]) -> Result<Vec<Word>, NoMemory>
     Ok(copies)
 }
 
+// The lowest grade of the policy.
+fn lowest_grade(policy: &Policy) -> Grade
+    ensures { result ≡ lowest_grade policy.now.grades }
+{
+    let names = policy.grades();
+    if names.is_empty() {
+        return Grade::highest();
+    }
+    Grade::new((MAX_GRADES - names.len()) as u8).unwrap()
+}
+
 // The categories with numbers below `n`.
 fn cats_below(n: u8) -> Cats
     requires { n ≤ 64 }
@@ -215,6 +238,7 @@ impl PolicyNames {
         PolicyNames {
             levels: Vec::new(alloc),
             cats: Vec::new(alloc),
+            grades: Vec::new(alloc),
         }
     }
 
@@ -225,6 +249,7 @@ impl PolicyNames {
         match list {
             NameList::Levels => self.levels = names.into_vec(),
             NameList::Categories => self.cats = names.into_vec(),
+            NameList::Grades => self.grades = names.into_vec(),
         }
     }
 
@@ -235,6 +260,7 @@ impl PolicyNames {
         match list {
             NameList::Levels => self.levels.as_slice(),
             NameList::Categories => self.cats.as_slice(),
+            NameList::Grades => self.grades.as_slice(),
         }
     }
 
@@ -245,6 +271,7 @@ impl PolicyNames {
         LentNames {
             levels: self.levels.as_slice(),
             cats: self.cats.as_slice(),
+            grades: self.grades.as_slice(),
         }
         .fault()
     }
@@ -260,17 +287,33 @@ impl PolicyNames {
 
 impl Policy {
     /// The policy of these names. Of the errors of `PolicyError` the first that applies is returned.
-    pub fn new(alloc: Global, levels: &[Word], cats: &[Word]) -> Result<Policy, PolicyError>
-        ensures names { IfOk result (λ policy. policy ≡ record { levels = levels.now; cats = cats.now }) }
+    pub fn new(
+        alloc: Global,
+        levels: &[Word],
+        cats: &[Word],
+        grades: &[Word],
+    ) -> Result<Policy, PolicyError>
+        ensures names { IfOk result (λ policy. policy ≡ record { levels = levels.now; cats = cats.now; grades = grades.now }) }
         ensures policy { IfOk result MakePolicy }
-        ensures none { IfErr result (MakeNone (record { levels = levels.now; cats = cats.now })) }
+        ensures none { IfErr result (MakeNone (record { levels = levels.now; cats = cats.now; grades = grades.now })) }
     {
-        if let Some(fault) = (LentNames { levels, cats }).fault() {
+        let lent = LentNames {
+            levels,
+            cats,
+            grades,
+        };
+        if let Some(fault) = lent.fault() {
             return Err(fault);
         }
         let levels = copies(alloc, levels).map_err(PolicyError::NoMemory)?;
         let cats = copies(alloc, cats).map_err(PolicyError::NoMemory)?;
-        Ok(PolicyNames { levels, cats }.into_policy())
+        let grades = copies(alloc, grades).map_err(PolicyError::NoMemory)?;
+        let names = PolicyNames {
+            levels,
+            cats,
+            grades,
+        };
+        Ok(names.into_policy())
     }
 
     /// The allocator of its names.
@@ -294,12 +337,29 @@ impl Policy {
         self.names.cats.as_slice()
     }
 
+    /// The names of the grades, lowest first.
+    pub fn grades(&self) -> &[Word]
+        ensures names { result.now ≡ self.now.grades }
+        ensures policy { MakePolicy self.now }
+    {
+        self.names.grades.as_slice()
+    }
+
     /// The names in a list.
     pub fn names(&self, list: NameList) -> &[Word]
         ensures names { result.now ≡ names_of self.now list }
         ensures policy { MakePolicy self.now }
     {
         self.names.names(list)
+    }
+
+    /// Its names, list by list.
+    pub fn into_names(self) -> PolicyNames
+        ensures names { result ≡ self }
+        ensures policy { MakePolicy result }
+    {
+        let Policy { names } = self;
+        names
     }
 
     // The level with this name.
@@ -318,23 +378,37 @@ impl Policy {
         let place = place_of(self.cats(), name)?;
         Cats::one(place as u8)
     }
+
+    // The grade with this name.
+    pub(crate) fn grade_named(&self, name: &[u8]) -> Option<Grade>
+        ensures { result ≡ option_map (grade_at self.now.grades) (place_of self.now.grades name.now) }
+    {
+        let names = self.grades();
+        let place = place_of(names, name)?;
+        Grade::new((MAX_GRADES - names.len() + place) as u8)
+    }
 }
 
-/// The lowest level with no category.
+/// The lowest level with no category and the highest grade.
 pub fn bottom(policy: &Policy) -> Label
     ensures { result ≡ bottom }
 {
     lab_lattice::bottom()
 }
 
-/// The highest level of the policy with all its categories.
+/// The highest level of the policy with all its categories and its lowest grade.
 pub fn top(policy: &Policy) -> Label
     ensures { result ≡ top_of policy.now }
 {
     let highest = policy.levels().len() - 1;
     Pair {
-        first: Level::new(highest as u8).unwrap(),
-        second: cats_below(policy.cats().len() as u8),
+        first: Pair {
+            first: Level::new(highest as u8).unwrap(),
+            second: cats_below(policy.cats().len() as u8),
+        },
+        second: Dual {
+            inner: lowest_grade(policy),
+        },
     }
 }
 

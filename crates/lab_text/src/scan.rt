@@ -1,8 +1,9 @@
 // The form of a label's text.
 ghost use Rattle.std.specs.Prelude.{◌≡◌, ◌≤◌, true, MatchOption};
 ghost use Rattle.lab_text.specs.Text.{is_label_text, Breaks};
-ghost use Rattle.lab_text.specs.Scan.{step};
+ghost use Rattle.lab_text.specs.Scan.{list_after, step};
 
+use crate::NameList;
 use crate::names::{is_letter, is_name_part};
 
 const MAX_NAME: usize = 31;
@@ -10,10 +11,22 @@ const MAX_NAME: usize = 31;
 // How far a text has been read.
 #[derive(Clone, Copy)]
 struct Scan {
-    // Whether the colon was read.
-    in_cats: bool,
+    // The list of the current name.
+    list: NameList,
     // How many bytes of the current name were read.
     len: usize,
+}
+
+// The list of the next name, where this byte may end a name of `list`.
+fn list_after(list: NameList, byte: u8) -> Option<NameList>
+    ensures { result ≡ list_after list byte }
+{
+    match list {
+        NameList::Levels if byte == b':' => Some(NameList::Categories),
+        NameList::Categories if byte == b',' => Some(NameList::Categories),
+        NameList::Levels | NameList::Categories if byte == b'/' => Some(NameList::Grades),
+        _ => None,
+    }
 }
 
 // The state after one more byte, or `None` where no label's text goes on with it.
@@ -32,11 +45,8 @@ fn step(scan: Scan, byte: u8) -> Option<Scan>
             ..scan
         });
     }
-    let mark = if scan.in_cats { b',' } else { b':' };
-    (byte == mark).then_some(Scan {
-        in_cats: true,
-        len: 0,
-    })
+    let list = list_after(scan.list, byte)?;
+    Some(Scan { list, len: 0 })
 }
 
 // The first place at which no label's text goes on as this one does, or its length where it ends too early. `None` where it has
@@ -45,7 +55,7 @@ pub fn syntax_fault(text: &[u8]) -> Option<usize>
     ensures { MatchOption result (is_label_text text.now ≡ true) (Breaks text.now) }
 {
     let mut scan = Scan {
-        in_cats: false,
+        list: NameList::Levels,
         len: 0,
     };
     for (at, byte) in text.iter().enumerate() {

@@ -1,3 +1,4 @@
 pub mod ResultLemmas
 pub mod ReplyLemmas
 pub mod CapWords
+pub mod NameLemmas

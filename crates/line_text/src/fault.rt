@@ -3,7 +3,7 @@ ghost use Rattle.std.specs.Prelude.{◌≡◌};
 ghost use Rattle.line_text.specs.Faults.{fault_word};
 
 /// What is wrong with a line of a world or of a script. Of several faults the first that is listed here counts; in a line
-/// of levels or categories `TooMany` counts before `Repeated`.
+/// of levels, categories or grades `TooMany` counts before `Repeated`.
 #[derive(Clone, Copy, Debug, PartialEq, Eq)]
 pub enum LineFault {
     /// A line of the script has more than 2,048 bytes.

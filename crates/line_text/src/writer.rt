@@ -9,7 +9,7 @@ ghost use Rattle.lab_text.specs.Numbered.{numbered_text};
 ghost use Rattle.lab_text.specs.Text.{label_text};
 ghost use Rattle.kern_model.specs.Names.{place_text, ending_text};
 ghost use Rattle.line_text.specs.Ranges.{are_bytes, are_numbers, IsNumber, count_of, PlaceInRange, EndingInRange};
-ghost use Rattle.line_text.specs.Words.{pid_text, oid_text, caps_word, thing_text, new_label_text, list_line};
+ghost use Rattle.line_text.specs.Words.{pid_text, oid_text, caps_word, thing_text, new_label_text, is_left_out, list_text};
 
 use crate::NoMemory;
 use cap_bits::CapState;
@@ -20,6 +20,14 @@ use lab_lattice::Label;
 use lab_text::{NameList, Policy, Word, put_label, put_numbered};
 use std::alloc::Global;
 use std::marker::Model;
+
+// Whether a list of names has no line.
+#[tactic(auto, using(crate::proofs::NameLemmas::none_by_length))]
+fn is_left_out(policy: &Policy, list: NameList) -> bool
+    ensures { result ≡ is_left_out policy.now list }
+{
+    list.line_is_optional() && policy.names(list).is_empty()
+}
 
 // For how many bytes a writer has room from the start.
 const USUAL_LINE: usize = 96;
@@ -122,18 +130,21 @@ impl LineWriter {
         Ok(())
     }
 
-    // Appends the line of a list of names.
+    // Appends the line of a list of names, where it has one.
     fn name_list(&mut self, policy: &Policy, list: NameList) -> Result<(), NoMemory>
-        ensures { OnOk result (self.new ≡ self.old ++ list_line policy.now list) }
+        ensures { OnOk result (self.new ≡ self.old ++ list_text policy.now list) }
     {
+        if is_left_out(policy, list) {
+            return Ok(());
+        }
         self.bytes(list.keyword())?;
         self.words(policy.names(list))?;
         self.line_feed()
     }
 
-    /// Appends the line of each list of names of a policy.
+    /// Appends the line of each list of names of a policy that has one.
     pub fn name_lists(&mut self, policy: &Policy) -> Result<(), NoMemory>
-        ensures { OnOk result (self.new ≡ self.old ++ flat_map (list_line policy.now) all_lists) }
+        ensures { OnOk result (self.new ≡ self.old ++ flat_map (list_text policy.now) all_lists) }
     {
         for list in NameList::ALL.iter() {
             self.name_list(policy, *list)?;

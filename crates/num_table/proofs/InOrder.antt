@@ -16,12 +16,12 @@ use Rattle.lab_lattice.specs.Label.{Label, label_cmp}
 use Rattle.lab_lattice.proofs.Labels.{label_cmp_total, label_cmp_exact}
 use Rattle.kern_model.proofs.MapLemmas.{each-entries, get_or-found, head_T, tail_T}
 use Rattle.kern_model.proofs.TableLemmas.{both_T}
-use Rattle.num_table.specs.Numbers.{Num, num_cmp}
-use Rattle.num_table.specs.Rows.{Rows, items_in, numbered, row_at}
-use Rattle.num_table.proofs.Lists.{row_kept, row_or_none}
-use Rattle.num_table.proofs.NumberLaws.{num_cmp_total, num_cmp_exact}
-use Rattle.num_table.proofs.Rows.{placed}
-use Rattle.num_table.proofs.Sorted.{entries_sorted_list}
+use Rattle.kern_model.specs.Numbers.{Num, num_cmp}
+use Rattle.kern_model.specs.LabelLists.{Lists, items_in, numbered, list_at}
+use Rattle.num_table.proofs.Lists.{list_is, list_or_none}
+use Rattle.kern_model.proofs.NumberLaws.{num_cmp_total, num_cmp_exact}
+use Rattle.kern_model.proofs.ListItems.{placed}
+use Rattle.kern_model.proofs.SortedEntries.{entries_sorted_list}
 
 -- ---- one number is below another
 lower_by : (r s : Ordering) → T (is_lt r) → T (is_lt (ordering_then r s))
@@ -51,55 +51,55 @@ module _ {X : Type 0} where
   below_lower l k m n (None ∷ ws) es less h = below_lower l k m (n + 1) ws es less h
   below_lower l k m n (Some x ∷ ws) es less h = both_T _ _ (lower l k m n less) (below_lower l k m (n + 1) ws es less h)
 
-  below_rows : (l : Label) (m : ℕ) (rows : List (Label × List (Option X))) → T (below_all label_cmp l rows) → T (below_all num_cmp (l, m) (flat_map placed rows))
-  below_rows l m [] h = tt
-  below_rows l m (r ∷ rows) h = below_lower l r.0 m 0 r.1 (flat_map placed rows) (head_T _ _ h) (below_rows l m rows (tail_T _ _ h))
+  below_lists : (l : Label) (m : ℕ) (lists : List (Label × List (Option X))) → T (below_all label_cmp l lists) → T (below_all num_cmp (l, m) (flat_map placed lists))
+  below_lists l m [] h = tt
+  below_lists l m (r ∷ lists) h = below_lower l r.0 m 0 r.1 (flat_map placed lists) (head_T _ _ h) (below_lists l m lists (tail_T _ _ h))
 
-  sorted_row : (l : Label) (n : ℕ) (ws : List (Option X)) (es : List (Num × X)) → ((m : ℕ) → T (below_all num_cmp (l, m) es)) → T (is_sorted num_cmp es) → T (is_sorted num_cmp (numbered l n ws ++ es))
-  sorted_row l n [] es below h = h
-  sorted_row l n (None ∷ ws) es below h = sorted_row l (n + 1) ws es below h
-  sorted_row l n (Some x ∷ ws) es below h = both_T _ _ (below_later l n (n + 1) ws es (omega arith) (below n)) (sorted_row l (n + 1) ws es below h)
+  sorted_list : (l : Label) (n : ℕ) (ws : List (Option X)) (es : List (Num × X)) → ((m : ℕ) → T (below_all num_cmp (l, m) es)) → T (is_sorted num_cmp es) → T (is_sorted num_cmp (numbered l n ws ++ es))
+  sorted_list l n [] es below h = h
+  sorted_list l n (None ∷ ws) es below h = sorted_list l (n + 1) ws es below h
+  sorted_list l n (Some x ∷ ws) es below h = both_T _ _ (below_later l n (n + 1) ws es (omega arith) (below n)) (sorted_list l (n + 1) ws es below h)
 
-  sorted_rows : (rows : List (Label × List (Option X))) → T (is_sorted label_cmp rows) → T (is_sorted num_cmp (flat_map placed rows))
-  sorted_rows [] h = tt
-  sorted_rows (r ∷ rows) h = sorted_row r.0 0 r.1 (flat_map placed rows) (λ m. below_rows r.0 m rows (head_T _ _ h)) (sorted_rows rows (tail_T _ _ h))
+  sorted_lists : (lists : List (Label × List (Option X))) → T (is_sorted label_cmp lists) → T (is_sorted num_cmp (flat_map placed lists))
+  sorted_lists [] h = tt
+  sorted_lists (r ∷ lists) h = sorted_list r.0 0 r.1 (flat_map placed lists) (λ m. below_lists r.0 m lists (head_T _ _ h)) (sorted_lists lists (tail_T _ _ h))
 
   -- the numbers of a label
-  abbrev pub placed_at : Rows (Option X) → Label → List (Num × X)
-  placed_at rows label = numbered label 0 (row_at rows label)
+  abbrev pub placed_at : Lists (Option X) → Label → List (Num × X)
+  placed_at lists label = numbered label 0 (list_at lists label)
 
-  by_label : (rows : Rows (Option X)) (es : List (Label × List (Option X))) → AllByRecursion (λ (e : Label × List (Option X)). row_at rows e.0 ≡ e.1) es → flat_map placed es ≡ flat_map (placed_at rows) (keys_of es)
-  by_label rows [] all = refl
-  by_label rows (e ∷ es) all = ap (λ r. numbered e.0 0 r ++ flat_map placed es) (sym all.0) ∙ ap (λ ns. placed_at rows e.0 ++ ns) (by_label rows es all.1)
+  by_label : (lists : Lists (Option X)) (es : List (Label × List (Option X))) → AllByRecursion (λ (e : Label × List (Option X)). list_at lists e.0 ≡ e.1) es → flat_map placed es ≡ flat_map (placed_at lists) (keys_of es)
+  by_label lists [] all = refl
+  by_label lists (e ∷ es) all = ap (λ r. numbered e.0 0 r ++ flat_map placed es) (sym all.0) ∙ ap (λ ns. placed_at lists e.0 ++ ns) (by_label lists es all.1)
 
   -- the numbers of all labels, one label after another
-  pub keys-items_in : (rows : Rows (Option X)) → map.keys (items_in rows) ≡ keys_of (flat_map (placed_at rows) (map.keys rows))
+  pub keys-items_in : (lists : Lists (Option X)) → map.keys (items_in lists) ≡ keys_of (flat_map (placed_at lists) (map.keys lists))
   unfolding items_in
-  keys-items_in rows =
-      ap keys_of (entries_sorted_list num_cmp_total num_cmp_exact (flat_map placed (map.entries rows)) (sorted_rows (map.entries rows) (entries_sorted rows)))
-      ∙ ap keys_of (by_label rows (map.entries rows)
-      (each-entries label_cmp_total label_cmp_exact (λ (label : Label) (row : List (Option X)). row_at rows label ≡ row) rows (λ label row is. get_or-found rows label [] row is)))
+  keys-items_in lists =
+      ap keys_of (entries_sorted_list num_cmp_total num_cmp_exact (flat_map placed (map.entries lists)) (sorted_lists (map.entries lists) (entries_sorted lists)))
+      ∙ ap keys_of (by_label lists (map.entries lists)
+      (each-entries label_cmp_total label_cmp_exact (λ (label : Label) (list : List (Option X)). list_at lists label ≡ list) lists (λ label list is. get_or-found lists label [] list is)))
 
   -- the numbers of labels from a place on
-  abbrev pub left : Rows (Option X) → List Label → ℕ → List Num
-  left rows labels i = keys_of (flat_map (placed_at rows) (drop i labels))
+  abbrev pub left : Lists (Option X) → List Label → ℕ → List Num
+  left lists labels i = keys_of (flat_map (placed_at lists) (drop i labels))
 
   -- those of the next label, and of the labels after it
-  next_label : (rows : Rows (Option X)) (labels : List Label) (i : ℕ) (label : Label) → i < length labels → label ≡ get_or labels i label → left rows labels i ≡ keys_of (placed_at rows label) ++ left rows labels (i + 1)
-  next_label rows labels i label low is =
-      at_drop_more (λ (ls : List Label). keys_of (flat_map (placed_at rows) ls)) labels i label low
-      ∙ ap (λ (l : Label). keys_of (placed_at rows l ++ flat_map (placed_at rows) (drop (i + 1) labels))) (sym is)
-      ∙ map-append _ (placed_at rows label) (flat_map (placed_at rows) (drop (i + 1) labels))
+  next_label : (lists : Lists (Option X)) (labels : List Label) (i : ℕ) (label : Label) → i < length labels → label ≡ get_or labels i label → left lists labels i ≡ keys_of (placed_at lists label) ++ left lists labels (i + 1)
+  next_label lists labels i label low is =
+      at_drop_more (λ (ls : List Label). keys_of (flat_map (placed_at lists) ls)) labels i label low
+      ∙ ap (λ (l : Label). keys_of (placed_at lists l ++ flat_map (placed_at lists) (drop (i + 1) labels))) (sym is)
+      ∙ map-append _ (placed_at lists label) (flat_map (placed_at lists) (drop (i + 1) labels))
 
-  module _ (rows : Rows (Option X)) (labels : List Label) (i : ℕ) (before all : List Num) (is : before ++ left rows labels i ≡ all) where
+  module _ (lists : Lists (Option X)) (labels : List Label) (i : ℕ) (before all : List Num) (is : before ++ left lists labels i ≡ all) where
     -- one label on
-    pub one_more : (label : Label) → i < length labels → label ≡ get_or labels i label → (o : Option (List (Option X))) → o ≡ map.get rows label
-        → (new : List Num) → new ≡ before ++ keys_of (numbered label 0 (row_or_none o)) → new ++ left rows labels (i + 1) ≡ all
+    pub one_more : (label : Label) → i < length labels → label ≡ get_or labels i label → (o : Option (List (Option X))) → o ≡ map.get lists label
+        → (new : List Num) → new ≡ before ++ keys_of (numbered label 0 (list_or_none o)) → new ++ left lists labels (i + 1) ≡ all
     one_more label low at o kept new more =
-        ap (λ ns. ns ++ left rows labels (i + 1)) more ∙ append_assoc before (keys_of (numbered label 0 (row_or_none o))) (left rows labels (i + 1))
-        ∙ ap (λ (r : List (Option X)). before ++ (keys_of (numbered label 0 r) ++ left rows labels (i + 1))) (sym (row_kept rows label o kept))
-        ∙ ap (λ ns. before ++ ns) (sym (next_label rows labels i label low at)) ∙ is
+        ap (λ ns. ns ++ left lists labels (i + 1)) more ∙ append_assoc before (keys_of (numbered label 0 (list_or_none o))) (left lists labels (i + 1))
+        ∙ ap (λ (r : List (Option X)). before ++ (keys_of (numbered label 0 r) ++ left lists labels (i + 1))) (sym (list_is lists label o kept))
+        ∙ ap (λ ns. before ++ ns) (sym (next_label lists labels i label low at)) ∙ is
 
     -- after the last label
     pub no_more : length labels ≤ i → before ≡ all
-    no_more high = sym (append-nil before) ∙ ap (λ ns. before ++ ns) (sym (at_drop_all (λ (ls : List Label). keys_of (flat_map (placed_at rows) ls)) labels i high)) ∙ is
+    no_more high = sym (append-nil before) ∙ ap (λ ns. before ++ ns) (sym (at_drop_all (λ (ls : List Label). keys_of (flat_map (placed_at lists) ls)) labels i high)) ∙ is

@@ -7,18 +7,17 @@ use Rattle.std.specs.Option.{option_and_then, option_map}
 use Rattle.std.specs.List.{AllByRecursion}
 use Rattle.std.specs.Map.{keys_of}
 use Rattle.std.specs.FinMap as map
-use Rattle.std.specs.FinMap.{FinMap, IsAntisymmetric, entries_sorted, get-empty, get-insert, get-remove, is_sorted, len-empty, len-entries, len-insert, len-remove, same_map}
+use Rattle.std.specs.FinMap.{FinMap, IsAntisymmetric, entries_sorted, get-empty, get-insert, get-remove, is_sorted, len-empty, len-insert, len-remove, same_map}
 use Rattle.std.specs.FinMap.Entries.{below_all}
 use Rattle.std.proofs.Common.{ap, arith, inl, inr, subst, sym, ◌∙◌, T}
 use Rattle.std.proofs.lemmas.Bool.{cases_lt, true≢false}
 use Rattle.std.proofs.lemmas.List.{get_or-set_other, get_or-set_same, get_or_past}
-use Rattle.std.proofs.lemmas.Map.Entries.{length-keys_of}
 use Rattle.std.proofs.lemmas.List.Sums.{sum_by-set}
 use Rattle.slab.specs.Slab.{Slab, Updates, get, slab_len, with_value}
 use Rattle.kern_model.specs.Maps.{select, selected, with_entry}
 use Rattle.kern_model.proofs.MapLemmas.{each-entries, get-select, never_some, remove-absent, same_key, some_same}
 use Rattle.num_table.specs.Slots.{IsPlaced, values_in}
-use Rattle.num_table.proofs.Sorted.{entries_sorted_list, same_itself}
+use Rattle.kern_model.proofs.SortedEntries.{entries_sorted_list, same_itself}
 
 -- ---- what a slot holds
 pub there_is : {X : Type 0} (o : Option X) → IsSome o → o ≡ None → ⊥
@@ -266,9 +265,3 @@ module _ {K X : Type 0} {R : K → K → Ordering} (total : IsTotalOrder R) (exa
         let all = each-entries total exact (λ (n : K) (key : ℕ). IsSome (get slots key)) keys are.there in
         ap keys_of (entries_sorted_list total exact (selected value (map.entries keys)) (subst T (sym (sorted_selected (map.entries keys) all)) (entries_sorted keys)))
         ∙ keys_selected (map.entries keys) all
-
-    -- and so there are as many
-    pub len-values_in : (keys : FinMap R ℕ) → IsPlaced slots keys → map.len (values_in slots keys) ≡ map.len keys
-    len-values_in keys are =
-        len-entries (values_in slots keys) ∙ sym (length-keys_of (map.entries (values_in slots keys))) ∙ ap length (keys-values_in keys are) ∙ length-keys_of (map.entries keys)
-        ∙ sym (len-entries keys)

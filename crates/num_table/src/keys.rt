@@ -2,7 +2,7 @@
 ghost use Rattle.std.specs.Prelude.{◌≡◌, IfOk, OnErr, OnOk};
 ghost use Rattle.std.specs.FinMap as map;
 
-use crate::row::Row;
+use crate::key_list::KeyList;
 use kern_model::{LabelMap, NoMemory};
 use lab_lattice::Label;
 use std::alloc::Global;
@@ -12,12 +12,15 @@ use std::marker::Model;
 /// its place stays.
 pub struct Keys {
     alloc: Global,
-    kept: LabelMap<Row>,
+    by_label: LabelMap<KeyList>,
 }
 
 impl Drop for Keys {
     fn drop(self) {
-        let Keys { alloc: _, kept: _ } = self;
+        let Keys {
+            alloc: _,
+            by_label: _,
+        } = self;
     }
 }
 
@@ -26,14 +29,14 @@ impl Model for Keys {
     ghost use Rattle.std.specs.FinMap as map;
     ghost use Rattle.std.specs.Coded.{coded×, coded_ℕ};
     ghost use Rattle.lab_lattice.specs.Label.{label_code};
-    ghost use Rattle.num_table.specs.Numbers.{num_cmp};
-    ghost use Rattle.num_table.specs.Rows.{items_in};
+    ghost use Rattle.kern_model.specs.Numbers.{num_cmp};
+    ghost use Rattle.kern_model.specs.LabelLists.{items_in};
 
     ghost Value = { map.FinMap num_cmp ℕ };
 
     ghost coded = { map.code (coded× label_code coded_ℕ) coded_ℕ };
 
-    ghost view = { λ k. items_in k.kept };
+    ghost view = { λ k. items_in k.by_label };
 }
 
 impl Keys {
@@ -43,7 +46,7 @@ impl Keys {
     {
         Keys {
             alloc,
-            kept: LabelMap::new(alloc),
+            by_label: LabelMap::new(alloc),
         }
     }
 
@@ -51,7 +54,7 @@ impl Keys {
     pub fn get(&self, label: &Label, n: u16) -> Option<u32>
         ensures { result ≡ map.get self.now (label.now, n) }
     {
-        self.kept.get(label)?.get(n)
+        self.by_label.get(label)?.get(n)
     }
 
     /// The key at a number, if there is one. The next call finds the same label at once.
@@ -59,7 +62,7 @@ impl Keys {
         ensures key { result ≡ map.get self.old (label.now, n) }
         ensures same { self.new ≡ self.old }
     {
-        self.kept.get_mut(label)?.get(n)
+        self.by_label.get_mut(label)?.get(n)
     }
 
     /// Puts a key at a number, in place of one that is there.
@@ -67,12 +70,12 @@ impl Keys {
         ensures ok { OnOk result (self.new ≡ map.insert self.old (label.now, n) key) }
         ensures err { OnErr result (self.new ≡ self.old) }
     {
-        if let Some(row) = self.kept.get_mut(label) {
-            return row.set(n, key);
+        if let Some(list) = self.by_label.get_mut(label) {
+            return list.set(n, key);
         }
-        let mut row = Row::new(self.alloc);
-        row.set(n, key)?;
-        self.kept.insert(*label, row)?;
+        let mut list = KeyList::new(self.alloc);
+        list.set(n, key)?;
+        self.by_label.insert(*label, list)?;
         Ok(())
     }
 
@@ -81,7 +84,7 @@ impl Keys {
         ensures removed { result ≡ map.get self.old (label.now, n) }
         ensures left { self.new ≡ map.remove self.old (label.now, n) }
     {
-        self.kept.get_mut(label)?.remove(n)
+        self.by_label.get_mut(label)?.remove(n)
     }
 
     /// The numbers at which there is a key, in order.
@@ -89,10 +92,10 @@ impl Keys {
         ensures { IfOk result (λ numbers. numbers.items ≡ map.keys self.now) }
     {
         let mut numbers = Vec::new(alloc);
-        let labels = self.kept.labels(alloc)?;
+        let labels = self.by_label.labels(alloc)?;
         for label in labels.iter() {
-            if let Some(row) = self.kept.get(label) {
-                row.add_numbers(label, &mut numbers)?;
+            if let Some(list) = self.by_label.get(label) {
+                list.add_numbers(label, &mut numbers)?;
             }
         }
         Ok(numbers)

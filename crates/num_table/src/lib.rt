@@ -1,9 +1,9 @@
 //! Values by numbers that are drawn in turn: a list for each label, with a place for each count of a draw.
 #![tactic(auto)]
 
+mod key_list;
 mod keys;
 mod number;
-mod row;
 mod table;
 
 pub use kern_model::NoMemory;

@@ -29,7 +29,7 @@ impl<T> Model for Table<T> {
     ghost use Rattle.std.specs.FinMap as map;
     ghost use Rattle.std.specs.Coded.{coded×, coded_ℕ};
     ghost use Rattle.lab_lattice.specs.Label.{label_code};
-    ghost use Rattle.num_table.specs.Numbers.{num_cmp};
+    ghost use Rattle.kern_model.specs.Numbers.{num_cmp};
     ghost use Rattle.num_table.specs.Slots.{IsPlaced, values_in};
 
     ghost Value = { map.FinMap num_cmp T };
@@ -43,7 +43,7 @@ impl<T> Model for Table<T> {
 
 impl<T: Drop> Table<T> {
     ghost use Rattle.std.specs.Option.{option_copied_mut};
-    ghost use Rattle.num_table.specs.Keys.{keyed};
+    ghost use Rattle.kern_model.specs.ByNumber.{by_number};
     ghost use Rattle.num_table.specs.Lending.{LendsAt, LendsItem};
 
     /// No value.
@@ -56,16 +56,16 @@ impl<T: Drop> Table<T> {
         }
     }
 
-    /// The value at a number, if there is one.
-    pub fn get(&self, label: &Label, n: u16) -> Option<&T>
+    // The value at a label and a count, if there is one.
+    fn get(&self, label: &Label, n: u16) -> Option<&T>
         ensures { option_copied result ≡ map.get self.now (label.now, n) }
     {
         let key = self.keys.get(label, n)?;
         self.slots.get(key as usize)
     }
 
-    /// The value at a number, for changes to it, if there is one.
-    pub fn get_mut(&mut self, label: &Label, n: u16) -> Option<&mut T>
+    // The value at a label and a count, for changes to it, if there is one.
+    fn get_mut(&mut self, label: &Label, n: u16) -> Option<&mut T>
         ensures* writes_back { sem 𝓛 (LendsItem T.row self.entry (label.now, n) result) }
         ensures value { option_copied_mut result ≡ map.get self.old (label.now, n) }
     {
@@ -73,8 +73,8 @@ impl<T: Drop> Table<T> {
         self.slots.get_mut(key as usize)
     }
 
-    /// Puts a value at a number, in place of one that is there. Where one is there, it takes no memory.
-    pub fn set(&mut self, label: &Label, n: u16, item: T) -> Result<(), NoMemory>
+    // Puts a value at a label and a count, in place of one that is there. Where one is there, it takes no memory.
+    fn set(&mut self, label: &Label, n: u16, item: T) -> Result<(), NoMemory>
         ensures ok { OnOk result (self.new ≡ map.insert self.old (label.now, n) item) }
         ensures err { OnErr result (self.new ≡ self.old) }
         ensures replaced { IsSome (map.get self.old (label.now, n)) → IsOk result }
@@ -86,7 +86,7 @@ impl<T: Drop> Table<T> {
         self.add(label, n, item)
     }
 
-    // Puts a value at a number that has none.
+    // Puts a value at a label and a count that have none.
     fn add(&mut self, label: &Label, n: u16, item: T) -> Result<(), NoMemory>
         requires { map.get self.old (label.now, n) ≡ None }
         ensures ok { OnOk result (self.new ≡ map.insert self.old (label.now, n) item) }
@@ -103,8 +103,8 @@ impl<T: Drop> Table<T> {
         Ok(())
     }
 
-    /// Removes the value at a number, if there is one, and returns it. It takes no memory.
-    pub fn remove(&mut self, label: &Label, n: u16) -> Option<T>
+    // Removes the value at a label and a count, if there is one, and returns it. It takes no memory.
+    fn remove(&mut self, label: &Label, n: u16) -> Option<T>
         ensures removed { result ≡ map.get self.old (label.now, n) }
         ensures left { self.new ≡ map.remove self.old (label.now, n) }
     {
@@ -112,46 +112,46 @@ impl<T: Drop> Table<T> {
         Some(self.slots.remove(key as usize))
     }
 
-    /// The numbers at which there is a value, in order.
+    /// The labels and counts of the numbers at which there is a value, in order.
     pub fn numbers(&self, alloc: Global) -> Result<Vec<(Label, u16)>, NoMemory>
         ensures { IfOk result (λ numbers. numbers.items ≡ map.keys self.now) }
     {
         self.keys.numbers(alloc)
     }
 
-    /// The value at a key, if there is one.
+    /// The value at a number, if there is one.
     #[inline(always)]
-    pub fn get_at<K: Number>(&self, key: &K) -> Option<&T>
-        ensures { option_copied result ≡ map.get (keyed {R = K.order} K.key self.now) key.now }
+    pub fn get_at<K: Number>(&self, number: &K) -> Option<&T>
+        ensures { option_copied result ≡ map.get (by_number {R = K.order} K.of_parts self.now) number.now }
     {
-        self.get(key.label(), key.count())
+        self.get(number.label(), number.count())
     }
 
-    /// The value at a key, for changes to it, if there is one.
+    /// The value at a number, for changes to it, if there is one.
     #[inline(always)]
-    pub fn get_mut_at<K: Number>(&mut self, key: &K) -> Option<&mut T>
-        ensures* writes_back { sem 𝓛 (LendsAt K.order K.key T.row self.entry key.now result) }
-        ensures value { option_copied_mut result ≡ map.get (keyed {R = K.order} K.key self.old) key.now }
+    pub fn get_mut_at<K: Number>(&mut self, number: &K) -> Option<&mut T>
+        ensures* writes_back { sem 𝓛 (LendsAt K.order K.of_parts T.row self.entry number.now result) }
+        ensures value { option_copied_mut result ≡ map.get (by_number {R = K.order} K.of_parts self.old) number.now }
     {
-        self.get_mut(key.label(), key.count())
+        self.get_mut(number.label(), number.count())
     }
 
-    /// Puts a value at a key, in place of one that is there. Where one is there, it takes no memory.
+    /// Puts a value at a number, in place of one that is there. Where one is there, it takes no memory.
     #[inline(always)]
-    pub fn set_at<K: Number>(&mut self, key: &K, item: T) -> Result<(), NoMemory>
-        ensures ok { OnOk result (keyed {R = K.order} K.key self.new ≡ map.insert (keyed K.key self.old) key.now item) }
+    pub fn set_at<K: Number>(&mut self, number: &K, item: T) -> Result<(), NoMemory>
+        ensures ok { OnOk result (by_number {R = K.order} K.of_parts self.new ≡ map.insert (by_number K.of_parts self.old) number.now item) }
         ensures err { OnErr result (self.new ≡ self.old) }
-        ensures replaced { IsSome (map.get (keyed {R = K.order} K.key self.old) key.now) → IsOk result }
+        ensures replaced { IsSome (map.get (by_number {R = K.order} K.of_parts self.old) number.now) → IsOk result }
     {
-        self.set(key.label(), key.count(), item)
+        self.set(number.label(), number.count(), item)
     }
 
-    /// Removes the value at a key, if there is one, and returns it. It takes no memory.
+    /// Removes the value at a number, if there is one, and returns it. It takes no memory.
     #[inline(always)]
-    pub fn remove_at<K: Number>(&mut self, key: &K) -> Option<T>
-        ensures removed { result ≡ map.get (keyed {R = K.order} K.key self.old) key.now }
-        ensures left { keyed {R = K.order} K.key self.new ≡ map.remove (keyed K.key self.old) key.now }
+    pub fn remove_at<K: Number>(&mut self, number: &K) -> Option<T>
+        ensures removed { result ≡ map.get (by_number {R = K.order} K.of_parts self.old) number.now }
+        ensures left { by_number {R = K.order} K.of_parts self.new ≡ map.remove (by_number K.of_parts self.old) number.now }
     {
-        self.remove(key.label(), key.count())
+        self.remove(number.label(), number.count())
     }
 }

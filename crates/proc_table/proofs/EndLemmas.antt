@@ -7,7 +7,7 @@ use Rattle.std.proofs.Common.{sym, ap, ◌∙◌}
 use Rattle.kern_model.specs.declared.calls.Ending.{Ending}
 use Rattle.kern_model.specs.declared.numbers.Pid.{Pid}
 use Rattle.kern_model.specs.Keys.{is_pid, pid_cmp}
-use Rattle.kern_model.specs.ProcessRows.{left_by}
+use Rattle.kern_model.specs.ProcessRows.{process_after_end}
 use Rattle.kern_model.specs.State.{Process}
 use Rattle.kern_model.proofs.KeyLaws.{pid_cmp_total, pid_cmp_exact}
 use Rattle.kern_model.proofs.MapLemmas.{same_key}
@@ -51,4 +51,4 @@ pub ended_in_steps : (procs : FinMap pid_cmp Process) (who : Pid) (p : Process) 
 ended_in_steps procs who p how = same_map pid_cmp_total pid_cmp_exact _ _ (λ q.
     get-select_each pid_cmp_total pid_cmp_exact (λ (q : Pid) (other : Process). parted who other) (told (map.remove procs who) p.parent (with_ended who how)) q
     ∙ each_left (map.remove procs who) who how p.parent q
-    ∙ sym (get-select_each pid_cmp_total pid_cmp_exact (left_by who p how) (map.remove procs who) q))
+    ∙ sym (get-select_each pid_cmp_total pid_cmp_exact (process_after_end who p how) (map.remove procs who) q))

@@ -8,7 +8,7 @@ use Rattle.lab_lattice.specs.Label.{label_cmp}
 use Rattle.kern_model.specs.declared.calls.Ending.{Ending}
 use Rattle.kern_model.specs.declared.numbers.Pid.{Pid}
 use Rattle.kern_model.specs.Keys.{is_pid, pid_cmp, same_pid}
-use Rattle.kern_model.specs.ProcessRows.{left_by}
+use Rattle.kern_model.specs.ProcessRows.{process_after_end}
 use Rattle.kern_model.specs.State.{Process, drawn}
 use Rattle.kern_model.proofs.KeyLaws.{pid_cmp_total, pid_cmp_exact}
 use Rattle.kern_model.proofs.MapLemmas.{each-insert, each-remove, insert-same, never_some, same_key}
@@ -119,9 +119,9 @@ module _ (living : FinMap pid_cmp Process) (children : ChildIndex) (made : ℕ) 
 
 -- the numbers of the processes that are left were drawn
 module _ (procs : FinMap pid_cmp Process) (numbers : FinMap label_cmp ℕ) (are : AreDrawn procs numbers) (who : Pid) (p : Process) (how : Ending) where
-  drawn_before : (q : Pid) (x : Process) (o : Option Process) → map.get (map.remove procs who) q ≡ o → option_map (left_by who p how q) o ≡ Some x → q.n ≤ drawn numbers q.label
+  drawn_before : (q : Pid) (x : Process) (o : Option Process) → map.get (map.remove procs who) q ≡ o → option_map (process_after_end who p how q) o ≡ Some x → q.n ≤ drawn numbers q.label
   drawn_before q x None is e = absurd (never_some None x refl e)
   drawn_before q x (Some y) is e = each-remove pid_cmp_total pid_cmp_exact (λ (q : Pid) (y : Process). q.n ≤ drawn numbers q.label) procs are who q y is
 
   pub ended_drawn : AreDrawn (ended_by procs who p how) numbers
-  ended_drawn q x is = drawn_before q x (map.get (map.remove procs who) q) refl (sym (get-select_each pid_cmp_total pid_cmp_exact (left_by who p how) (map.remove procs who) q) ∙ is)
+  ended_drawn q x is = drawn_before q x (map.get (map.remove procs who) q) refl (sym (get-select_each pid_cmp_total pid_cmp_exact (process_after_end who p how) (map.remove procs who) q) ∙ is)

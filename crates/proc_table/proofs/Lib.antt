@@ -1,3 +1,4 @@
+pub mod ChangeLemmas
 pub mod DrawnLemmas
 pub mod EndLemmas
 pub mod FinishLemmas

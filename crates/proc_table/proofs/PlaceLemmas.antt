@@ -8,7 +8,7 @@ use Rattle.kern_model.specs.declared.numbers.Pid.{Pid}
 use Rattle.kern_model.specs.Keys.{same_pid}
 use Rattle.kern_model.proofs.KeyLaws.{pid_cmp_total, pid_cmp_exact}
 use Rattle.kern_model.proofs.MapLemmas.{never_some, same_key}
-use Rattle.num_table.proofs.Sorted.{same_itself}
+use Rattle.kern_model.proofs.SortedEntries.{same_itself}
 
 -- two numbers are one or not
 pub by_pids : {P : Type 0} (a b : Pid) → (a ≡ b → P) → (a ≢ b → P) → P

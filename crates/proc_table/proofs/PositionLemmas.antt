@@ -10,7 +10,7 @@ use Rattle.kern_model.specs.Keys.{is_pid, pid_cmp, same_pid}
 use Rattle.kern_model.proofs.KeyLaws.{pid_cmp_total, pid_cmp_exact}
 use Rattle.kern_model.proofs.MapLemmas.{get-insert_same, get_or-absent, get_or-found, get_or-same, never_some, same_key, some_same}
 use Rattle.kern_model.proofs.Selections.{get-remove_same}
-use Rattle.num_table.proofs.Sorted.{same_itself}
+use Rattle.kern_model.proofs.SortedEntries.{same_itself}
 use Rattle.proc_table.specs.declared.positions.Position.{Position}
 use Rattle.proc_table.specs.Children.{AreInPlace, IsSwapRemoved, IsSwapRemovedAt, ChildIndex, child_count, is_child, list_at, parent_by}
 use Rattle.proc_table.proofs.KeptLemmas.{alone}
@@ -52,27 +52,41 @@ pub no_length : (l : List Pid) → length l ≡ 0 → l ≡ []
 no_length [] e = refl
 no_length (x ∷ l) e = absurd (omega (arith, e))
 
--- a child is removed from a list, which is dropped where nothing is left of it
-module _ (lists : FinMap pid_cmp (List Pid)) (parent : Pid) (place : ℕ) (l : List Pid) (swap_remove : IsSwapRemoved (list_at lists parent) place l) where
-  swap_remove_there : (new : FinMap pid_cmp (List Pid)) → list_at new parent ≡ l → ((q : Pid) → q ≢ parent → list_at new q ≡ list_at lists q) → IsSwapRemovedAt lists parent place new
-  swap_remove_there new is others = record { its = subst (λ (l : List Pid). IsSwapRemoved (list_at lists parent) place l) (sym is) swap_remove; others = others }
+-- the list of a parent that is found in the table of lists, and that of one that is not
+module _ (table lists : FinMap pid_cmp (List Pid)) (view : table ≡ lists) (parent : Pid) where
+  pub list_found : (list : List Pid) → Some list ≡ map.get table parent → list_at lists parent ≡ list
+  list_found list is = get_or-found lists parent [] list (sym (is ∙ ap (λ (m : FinMap pid_cmp (List Pid)). map.get m parent) view))
 
-  module _ (mid : FinMap pid_cmp (List Pid)) (set : mid ≡ map.insert lists parent l) where
-    pub set_list : list_at mid parent ≡ l
-    set_list = ap (λ (m : FinMap pid_cmp (List Pid)). list_at m parent) set ∙ listed_there lists parent l
+  pub list_absent : None ≡ map.get table parent → list_at lists parent ≡ []
+  list_absent is = get_or-absent lists parent [] (sym (is ∙ ap (λ (m : FinMap pid_cmp (List Pid)). map.get m parent) view))
 
-    set_others : (q : Pid) → q ≢ parent → list_at mid q ≡ list_at lists q
-    set_others q other = ap (λ (m : FinMap pid_cmp (List Pid)). list_at m q) set ∙ listed_elsewhere lists parent l q other
+  -- a child is removed from a list, which is dropped where nothing is left of it
+  module _ (place : ℕ) (old l : List Pid) (is : Some old ≡ map.get table parent) (swap_remove : IsSwapRemoved old place l) where
+    swap_remove_there : (new : FinMap pid_cmp (List Pid)) → list_at new parent ≡ l → ((q : Pid) → q ≢ parent → list_at new q ≡ list_at lists q) → IsSwapRemovedAt lists parent place new
+    swap_remove_there new now others = record {
+      its = subst (λ (xs : List Pid). IsSwapRemoved xs place (list_at new parent)) (sym (list_found old is)) (subst (λ (xs : List Pid). IsSwapRemoved old place xs) (sym now) swap_remove);
+      others = others;
+    }
 
-    pub swap_remove_set : IsSwapRemovedAt lists parent place mid
-    swap_remove_set = swap_remove_there mid set_list set_others
+    module _ (mid : FinMap pid_cmp (List Pid)) (set : mid ≡ map.insert table parent l) where
+      set_lists : mid ≡ map.insert lists parent l
+      set_lists = set ∙ ap (λ (m : FinMap pid_cmp (List Pid)). map.insert m parent l) view
 
-    module _ (empty : length l ≡ 0) (new : FinMap pid_cmp (List Pid)) (removed : new ≡ map.remove mid parent) where
-      pub dropped_list : list_at new parent ≡ l
-      dropped_list = ap (λ (m : FinMap pid_cmp (List Pid)). list_at m parent) removed ∙ dropped_there mid parent ∙ sym (no_length l empty)
+      pub set_list : list_at mid parent ≡ l
+      set_list = ap (λ (m : FinMap pid_cmp (List Pid)). list_at m parent) set_lists ∙ listed_there lists parent l
 
-      pub swap_remove_dropped : IsSwapRemovedAt lists parent place new
-      swap_remove_dropped = swap_remove_there new dropped_list (λ q other. ap (λ (m : FinMap pid_cmp (List Pid)). list_at m q) removed ∙ dropped_elsewhere mid parent q other ∙ set_others q other)
+      set_others : (q : Pid) → q ≢ parent → list_at mid q ≡ list_at lists q
+      set_others q other = ap (λ (m : FinMap pid_cmp (List Pid)). list_at m q) set_lists ∙ listed_elsewhere lists parent l q other
+
+      pub swap_remove_set : IsSwapRemovedAt lists parent place mid
+      swap_remove_set = swap_remove_there mid set_list set_others
+
+      module _ (empty : length l ≡ 0) (new : FinMap pid_cmp (List Pid)) (removed : new ≡ map.remove mid parent) where
+        pub dropped_list : list_at new parent ≡ l
+        dropped_list = ap (λ (m : FinMap pid_cmp (List Pid)). list_at m parent) removed ∙ dropped_there mid parent ∙ sym (no_length l empty)
+
+        pub swap_remove_dropped : IsSwapRemovedAt lists parent place new
+        swap_remove_dropped = swap_remove_there new dropped_list (λ q other. ap (λ (m : FinMap pid_cmp (List Pid)). list_at m q) removed ∙ dropped_elsewhere mid parent q other ∙ set_others q other)
 
 abbrev child_index : FinMap pid_cmp (List Pid) → FinMap pid_cmp Position → ChildIndex
 child_index lists positions = record { lists = lists; positions = positions }

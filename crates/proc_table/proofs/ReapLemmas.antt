@@ -2,7 +2,7 @@
 use Rattle.std.specs.Prelude.{◌≡◌, ℕ, ◌≤◌, true, false, List, [], ◌∷◌, Option, Some, None, MatchOption, length, refl}
 use Rattle.std.specs.FinMap as map
 use Rattle.std.specs.FinMap.{FinMap}
-use Rattle.std.proofs.Common.{sym, ap, ◌∙◌, subst, arith}
+use Rattle.std.proofs.Common.{sym, ap, ◌∙◌, arith}
 use Rattle.std.proofs.lemmas.Bool.{true≢false}
 use Rattle.lab_lattice.specs.Label.{label_cmp}
 use Rattle.kern_model.specs.declared.calls.Ending.{Ending}
@@ -14,8 +14,7 @@ use Rattle.kern_model.proofs.MapLemmas.{insert-same}
 use Rattle.kern_model.proofs.Selections.{none_pass, one_passes}
 use Rattle.proc_table.specs.Children.{IsKept, ChildIndex, has_parent, is_child}
 use Rattle.proc_table.specs.Procs.{AreDrawn, TakesEnded, has_living_child}
-use Rattle.proc_table.proofs.DrawnLemmas.{still_drawn}
-use Rattle.proc_table.proofs.KeptLemmas.{kept_changed}
+use Rattle.proc_table.proofs.ChangeLemmas.{changed_kept}
 
 shorter : (first : Option (Pid × Ending)) (xs left : List (Pid × Ending)) → MatchOption first ((xs ≡ []) × (left ≡ [])) (λ e. xs ≡ e ∷ left) → length left ≤ length xs
 shorter None xs left h = let none = ap length h.1 in omega (arith, none)
@@ -30,8 +29,7 @@ module _ (living new : FinMap pid_cmp Process) (who : Pid) (p : Process) (is : m
   pub taken_kept : (first : Option (Pid × Ending)) → TakesEnded living new who p first → (numbers : FinMap label_cmp ℕ) (children : ChildIndex) (made : ℕ)
       → AreDrawn living numbers × IsKept living children made → AreDrawn new numbers × IsKept new children made
   taken_kept first t numbers children made h =
-      subst (λ (m : FinMap pid_cmp Process). AreDrawn m numbers × IsKept m children made) (sym t.now)
-      (still_drawn living numbers h.0 who p is (record p { ended = t.left }), kept_changed living children made h.1 who p is (record p { ended = t.left }) refl (shorter first p.ended t.left t.list))
+      changed_kept living new numbers who p (record p { ended = t.left }) (sym is) t.now refl (shorter first p.ended t.left t.list) children made h
 
 module _ (living : FinMap pid_cmp Process) (children : ChildIndex) (made : ℕ) (kept : IsKept living children made) (who : Pid) where
   -- a process has a living child exactly where one is kept

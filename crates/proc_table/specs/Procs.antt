@@ -1,19 +1,28 @@
 -- The table of living processes.
-use Rattle.std.specs.Prelude.{◌≡◌, ℕ, ◌+◌, ◌≤◌, Bool, true, false, List, [], ◌∷◌, ◌++◌, cond, Option, None, Some, MatchOption, Result, Ok, Err, refl}
+use Rattle.std.specs.Prelude.{◌≡◌, ℕ, ◌+◌, ◌≤◌, ◌<◌, Bool, true, false, List, [], ◌∷◌, ◌++◌, cond, Option, None, Some, MatchOption, Result, Ok, Err, refl}
 use Rattle.std.specs.FinMap as map
 use Rattle.std.specs.FinMap.{FinMap}
 use Rattle.std.specs.Coded.{Coded, code_by, coded×, coded_ℕ}
 use Rattle.lab_lattice.specs.Label.{Label, label_cmp}
 use Rattle.kern_model.specs.declared.calls.Ending.{Ending}
+use Rattle.kern_model.specs.declared.limits.TheConstants.{MAX_PROCS}
 use Rattle.kern_model.specs.declared.numbers.Oid.{Oid}
 use Rattle.kern_model.specs.declared.numbers.Pid.{Pid}
 use Rattle.kern_model.specs.Keys.{is_pid, pid_cmp}
 use Rattle.kern_model.specs.Maps.{any_entry, select}
-use Rattle.kern_model.specs.ProcessRows.{left_by}
+use Rattle.kern_model.specs.ProcessRows.{process_after_end}
 use Rattle.kern_model.specs.State.{Process, drawn}
 use Rattle.proc_creds.specs.Credentials.{Credentials}
 use Rattle.proc_table.specs.declared.procs.ReapError.{ReapError}
 use Rattle.proc_table.specs.declared.procs.ReapError.TheVariants.{NoChild, NoneEnded}
+
+-- this holds of the process with a number, if there is one
+abbrev pub ForProcess : FinMap pid_cmp Process → Pid → (Process → Type 0) → Type 0
+ForProcess procs who P = (p : Process) → map.get procs who ≡ Some p → P p
+
+-- the next number of a label is given exactly where one is left
+abbrev pub IsNextIn : FinMap label_cmp ℕ → Label → Option Pid → Type 0
+IsNextIn numbers l next = MatchOption next (MAX_PROCS ≤ drawn numbers l) (λ who. (who ≡ record { label = l; n = drawn numbers l + 1 }) × (drawn numbers l < MAX_PROCS))
 
 -- the living processes, and the last number drawn of each label
 pub record ProcTable : Type 0 where
@@ -110,9 +119,13 @@ abbrev pub told : FinMap pid_cmp Process → Option Pid → (Process → Process
 told procs None f = procs
 told procs (Some q) f = altered procs q f
 
--- the processes after one ends: it goes, and each other one is as `left_by` says
+-- the processes where one is gone, and its parent, if there is one, has learnt how it ended
+abbrev pub without_ended : FinMap pid_cmp Process → Pid → Process → Ending → FinMap pid_cmp Process
+without_ended procs who p how = told (map.remove procs who) p.parent (with_ended who how)
+
+-- the processes after one ends: it goes, and each other one is as `process_after_end` says
 abbrev pub ended_by : FinMap pid_cmp Process → Pid → Process → Ending → FinMap pid_cmp Process
-ended_by procs who p how = select (λ q other. Some (left_by who p how q other)) (map.remove procs who)
+ended_by procs who p how = select (λ q other. Some (process_after_end who p how q other)) (map.remove procs who)
 
 -- the number of each living process was drawn
 abbrev pub AreDrawn : FinMap pid_cmp Process → FinMap label_cmp ℕ → Type 0

@@ -13,7 +13,7 @@ use std::marker::Model;
 #[derive(Drop)]
 pub struct ChildList {
     // A single one takes no memory of its own.
-    kept: SmallVec<Pid, 1>,
+    children: SmallVec<Pid, 1>,
 }
 
 impl Model for ChildList {
@@ -26,7 +26,7 @@ impl Model for ChildList {
 
     ghost coded = { Prim.hlevel (codes, label_code) };
 
-    ghost view = { λ l. l.kept.items };
+    ghost view = { λ l. l.children.items };
 }
 
 impl ChildList {
@@ -35,7 +35,7 @@ impl ChildList {
         ensures { result ≡ child ∷ [] }
     {
         ChildList {
-            kept: SmallVec::from_buf(alloc, [child]),
+            children: SmallVec::from_buf(alloc, [child]),
         }
     }
 
@@ -43,14 +43,14 @@ impl ChildList {
     fn len(&self) -> usize
         ensures { result ≡ length self.now }
     {
-        self.kept.len()
+        self.children.len()
     }
 
     /// The last one, if there is one.
     fn last(&self) -> Option<Pid>
         ensures { result ≡ slice_get self.now (length self.now - 1) }
     {
-        self.kept.last().copied()
+        self.children.last().copied()
     }
 
     /// Appends a child.
@@ -58,7 +58,7 @@ impl ChildList {
         ensures ok { OnOk result (self.new ≡ self.old ++ child ∷ []) }
         ensures err { OnErr result (self.new ≡ self.old) }
     {
-        self.kept.push(child)?;
+        self.children.push(child)?;
         Ok(())
     }
 
@@ -69,8 +69,8 @@ impl ChildList {
         ensures removed { IsSwapRemoved self.old place self.new }
         ensures moved { result ≡ slice_get self.new place }
     {
-        self.kept.swap_remove(place);
-        self.kept.get(place).copied()
+        self.children.swap_remove(place);
+        self.children.get(place).copied()
     }
 }
 
@@ -78,7 +78,7 @@ impl ChildList {
 #[derive(Drop)]
 pub struct ChildLists {
     alloc: Global,
-    kept: Table<ChildList>,
+    by_parent: Table<ChildList>,
 }
 
 impl Model for ChildLists {
@@ -88,13 +88,13 @@ impl Model for ChildLists {
     ghost use Rattle.lab_lattice.specs.Label.{label_code};
     ghost use Rattle.kern_model.specs.declared.numbers.Pid.{Pid};
     ghost use Rattle.kern_model.specs.Keys.{pid_cmp};
-    ghost use Rattle.num_table.specs.Keys.{by_pid};
+    ghost use Rattle.kern_model.specs.ByNumber.{by_pid};
 
     ghost Value = { map.FinMap pid_cmp (List Pid) };
 
     ghost coded = { map.code (Prim.hlevel (codes, label_code)) (Prim.hlevel (codes, label_code)) };
 
-    ghost view = { λ l. by_pid l.kept };
+    ghost view = { λ l. by_pid l.by_parent };
 }
 
 impl ChildLists {
@@ -104,7 +104,7 @@ impl ChildLists {
     {
         ChildLists {
             alloc,
-            kept: Table::new(alloc),
+            by_parent: Table::new(alloc),
         }
     }
 
@@ -112,7 +112,7 @@ impl ChildLists {
     pub fn count(&self, parent: &Pid) -> usize
         ensures { result ≡ length (list_at self.now parent.now) }
     {
-        match self.kept.get_at(parent) {
+        match self.by_parent.get_at(parent) {
             Some(list) => list.len(),
             None => 0,
         }
@@ -122,7 +122,7 @@ impl ChildLists {
     pub fn last(&self, parent: &Pid) -> Option<Pid>
         ensures { result ≡ slice_get (list_at self.now parent.now) (length (list_at self.now parent.now) - 1) }
     {
-        self.kept.get_at(parent)?.last()
+        self.by_parent.get_at(parent)?.last()
     }
 
     /// Appends a child of a parent.
@@ -130,10 +130,11 @@ impl ChildLists {
         ensures ok { OnOk result (self.new ≡ map.insert self.old parent.now (list_at self.old parent.now ++ child.now ∷ [])) }
         ensures err { OnErr result (self.new ≡ self.old) }
     {
-        if let Some(list) = self.kept.get_mut_at(parent) {
+        if let Some(list) = self.by_parent.get_mut_at(parent) {
             return list.push(*child);
         }
-        self.kept.set_at(parent, ChildList::new(self.alloc, *child))
+        self.by_parent
+            .set_at(parent, ChildList::new(self.alloc, *child))
     }
 
     /// Removes the child at a place of a parent's list, to which the last one moves. Returns who stands there then, if someone
@@ -143,12 +144,12 @@ impl ChildLists {
         ensures removed { IsSwapRemovedAt self.old parent.now place self.new }
         ensures moved { result ≡ slice_get (list_at self.new parent.now) place }
     {
-        let Some(list) = self.kept.get_mut_at(parent) else {
+        let Some(list) = self.by_parent.get_mut_at(parent) else {
             unreachable!();
         };
         let moved = list.swap_remove(place);
         if list.len() == 0 {
-            drop(self.kept.remove_at(parent));
+            drop(self.by_parent.remove_at(parent));
         }
         moved
     }

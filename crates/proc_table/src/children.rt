@@ -21,7 +21,7 @@ pub struct Children {
 impl Model for Children {
     ghost use Rattle.std.specs.Coded.{codes};
     ghost use Rattle.lab_lattice.specs.Label.{label_code};
-    ghost use Rattle.num_table.specs.Keys.{by_pid};
+    ghost use Rattle.kern_model.specs.ByNumber.{by_pid};
     ghost use Rattle.proc_table.specs.Children.{AreInPlace, ChildIndex, child_index_code};
 
     ghost Value = { ChildIndex };

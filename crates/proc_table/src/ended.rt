@@ -9,7 +9,7 @@ use std::marker::Model;
 /// A place in a list of ended children. It is made before the child ends, so that ending takes no memory.
 #[derive(Debug, Drop)]
 pub struct Place {
-    kept: LinkedList<(Pid, Ending)>,
+    entry: LinkedList<(Pid, Ending)>,
 }
 
 impl Model for Place {
@@ -23,25 +23,25 @@ impl Model for Place {
 
     ghost coded = { Prim.hlevel (codes, label_code) };
 
-    ghost view = { λ p. p.kept };
+    ghost view = { λ p. p.entry };
 
-    ghost invariant = { λ p. length p.kept ≡ 1 };
+    ghost invariant = { λ p. length p.entry ≡ 1 };
 }
 
 impl Place {
     /// A place for a child.
     pub fn new(alloc: Global, child: Pid) -> Result<Self, NoMemory> {
-        let mut kept = LinkedList::new(alloc);
+        let mut entry = LinkedList::new(alloc);
         // The ending is written when the child ends.
-        kept.push_back((child, Ending::Kill))?;
-        Ok(Place { kept })
+        entry.push_back((child, Ending::Kill))?;
+        Ok(Place { entry })
     }
 }
 
 /// Children that ended and were not awaited, with how each ended, the first to end first.
 #[derive(Debug, Drop)]
 pub struct EndedList {
-    kept: LinkedList<(Pid, Ending)>,
+    entries: LinkedList<(Pid, Ending)>,
 }
 
 impl Model for EndedList {
@@ -55,7 +55,7 @@ impl Model for EndedList {
 
     ghost coded = { Prim.hlevel (codes, label_code) };
 
-    ghost view = { λ l. l.kept };
+    ghost view = { λ l. l.entries };
 }
 
 impl EndedList {
@@ -64,7 +64,7 @@ impl EndedList {
         ensures { result ≡ [] }
     {
         EndedList {
-            kept: LinkedList::new(alloc),
+            entries: LinkedList::new(alloc),
         }
     }
 
@@ -72,7 +72,7 @@ impl EndedList {
     pub fn is_empty(&self) -> bool
         ensures { result ≡ (length self.now == 0) }
     {
-        self.kept.is_empty()
+        self.entries.is_empty()
     }
 
     /// Appends a child, in the place that was made for it. It takes no memory.
@@ -80,12 +80,12 @@ impl EndedList {
         requires { length self.old + 1 < 2 ^ 63 }
         ensures { self.new ≡ self.old ++ (child, ending) ∷ [] }
     {
-        let Place { mut kept } = place;
-        let Some(slot) = kept.front_mut() else {
+        let Place { mut entry } = place;
+        let Some(slot) = entry.front_mut() else {
             unreachable!();
         };
         *slot = (child, ending);
-        if self.kept.append(&mut kept).is_err() {
+        if self.entries.append(&mut entry).is_err() {
             unreachable!();
         }
     }
@@ -94,6 +94,6 @@ impl EndedList {
     pub fn take_first(&mut self) -> Option<(Pid, Ending)>
         ensures { MatchOption result ((self.old ≡ []) × (self.new ≡ [])) (λ first. self.old ≡ first ∷ self.new) }
     {
-        self.kept.pop_front()
+        self.entries.pop_front()
     }
 }

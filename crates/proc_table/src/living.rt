@@ -1,10 +1,9 @@
 // Living processes by their numbers.
-ghost use Rattle.std.specs.Prelude.{◌≡◌, ◌+◌, ◌<◌, ◌^◌, length, Some, IfOk, OnErr, OnOk, option_copied, option_map};
+ghost use Rattle.std.specs.Prelude.{◌≡◌, ◌+◌, ◌<◌, ◌^◌, length, IfOk, OnErr, OnOk, option_copied, option_map};
 ghost use Rattle.std.specs.FinMap as map;
 ghost use Rattle.kern_model.specs.ProcessRows.{child_of};
-ghost use Rattle.kern_model.specs.State.{Process};
 ghost use Rattle.kern_model.specs.Valid.{IsThere};
-ghost use Rattle.proc_table.specs.Procs.{TakesEnded, altered, with_ended, without_parent};
+ghost use Rattle.proc_table.specs.Procs.{ForProcess, TakesEnded, altered, with_ended, without_parent};
 
 use crate::ended::Place;
 use crate::process::Proc;
@@ -18,7 +17,7 @@ use std::marker::Model;
 /// Living processes by their numbers.
 #[derive(Drop)]
 pub struct Living {
-    kept: Table<Proc>,
+    by_number: Table<Proc>,
 }
 
 impl Model for Living {
@@ -32,13 +31,13 @@ impl Model for Living {
     ghost use Rattle.kern_model.specs.declared.numbers.Did.{Did};
     ghost use Rattle.kern_model.specs.Keys.{pid_cmp};
     ghost use Rattle.kern_model.specs.State.{Process};
-    ghost use Rattle.num_table.specs.Keys.{by_pid};
+    ghost use Rattle.kern_model.specs.ByNumber.{by_pid};
 
     ghost Value = { map.FinMap pid_cmp Process };
 
     ghost coded = { map.code (Prim.hlevel (codes, label_code)) (Prim.hlevel (codes, map.code {K = ℕ} {X = Did} {R = nat_cmp} coded_ℕ (Prim.hlevel (codes, label_code)), set.code {R = cap_cmp} cap_code, label_code)) };
 
-    ghost view = { λ a. by_pid a.kept };
+    ghost view = { λ a. by_pid a.by_number };
 }
 
 impl Living {
@@ -52,7 +51,7 @@ impl Living {
         ensures { result ≡ map.empty }
     {
         Living {
-            kept: Table::new(alloc),
+            by_number: Table::new(alloc),
         }
     }
 
@@ -60,7 +59,7 @@ impl Living {
     pub fn get(&self, who: &Pid) -> Option<&Proc>
         ensures { option_copied result ≡ map.get self.now who.now }
     {
-        self.kept.get_at(who)
+        self.by_number.get_at(who)
     }
 
     /// The process with a number, for changes to it, if there is one.
@@ -68,7 +67,7 @@ impl Living {
         ensures* writes_back { sem 𝓛 (LendsProcess self.entry who.now result) }
         ensures value { option_copied_mut result ≡ map.get self.old who.now }
     {
-        self.kept.get_mut_at(who)
+        self.by_number.get_mut_at(who)
     }
 
     /// The credentials of the process with a number, for changes to them, if there is one.
@@ -85,7 +84,7 @@ impl Living {
     /// The present label of a living process.
     pub fn label(&self, who: &Pid) -> Label
         requires { IsThere self.now who.now }
-        ensures { (p : Process) → map.get self.now who.now ≡ Some p → result ≡ p.label }
+        ensures { ForProcess self.now who.now (λ p. result ≡ p.label) }
     {
         let Some(process) = self.get(who) else {
             unreachable!();
@@ -96,7 +95,7 @@ impl Living {
     /// A child of a living process, with the numbers of both.
     pub fn child(&self, alloc: Global, parent: &Pid, who: &Pid) -> Result<Proc, NoMemory>
         requires { IsThere self.now parent.now }
-        ensures { (p : Process) → map.get self.now parent.now ≡ Some p → IfOk result (λ child. child ≡ child_of parent.now p) }
+        ensures { ForProcess self.now parent.now (λ p. IfOk result (λ child. child ≡ child_of parent.now p)) }
     {
         let Some(process) = self.get(parent) else {
             unreachable!();
@@ -107,7 +106,7 @@ impl Living {
     /// Takes the child that ended first off the list of a living process, if there is one. It takes no memory.
     pub fn take_ended(&mut self, who: &Pid) -> Option<(Pid, Ending)>
         requires { IsThere self.old who.now }
-        ensures { (p : Process) → map.get self.old who.now ≡ Some p → TakesEnded self.old self.new who.now p result }
+        ensures { ForProcess self.old who.now (λ p. TakesEnded self.old self.new who.now p result) }
     {
         let Some(process) = self.get_mut(who) else {
             unreachable!();
@@ -117,7 +116,7 @@ impl Living {
 
     /// Appends a child that ended to the list of a process, if there is one with the number. It takes no memory.
     pub fn add_ended(&mut self, who: &Pid, place: Place, child: &Pid, ending: Ending)
-        requires { (p : Process) → map.get self.old who.now ≡ Some p → length p.ended + 1 < 2 ^ 63 }
+        requires { ForProcess self.old who.now (λ p. length p.ended + 1 < 2 ^ 63) }
         ensures { self.new ≡ altered self.old who.now (with_ended child.now ending) }
     {
         if let Some(process) = self.get_mut(who) {
@@ -139,7 +138,7 @@ impl Living {
         ensures ok { OnOk result (self.new ≡ map.insert self.old who process) }
         ensures err { OnErr result (self.new ≡ self.old) }
     {
-        self.kept.set_at(&who, process)
+        self.by_number.set_at(&who, process)
     }
 
     /// Removes the process with a number, if there is one, and returns it. It takes no memory.
@@ -147,7 +146,7 @@ impl Living {
         ensures removed { result ≡ map.get self.old who.now }
         ensures left { self.new ≡ map.remove self.old who.now }
     {
-        self.kept.remove_at(who)
+        self.by_number.remove_at(who)
     }
 
     /// The numbers of the processes, in order.
@@ -155,7 +154,7 @@ impl Living {
         ensures { IfOk result (λ numbers. numbers ≡ map.keys self.now) }
     {
         let mut numbers = PidList::new(alloc);
-        for (label, n) in self.kept.numbers(alloc)? {
+        for (label, n) in self.by_number.numbers(alloc)? {
             numbers.push(Pid { label, n })?;
         }
         Ok(numbers)

@@ -1,7 +1,7 @@
 // Where each child stands among the children of its parent.
 ghost use Rattle.std.specs.Prelude.{◌≡◌, IsSome};
 ghost use Rattle.std.specs.FinMap as map;
-ghost use Rattle.num_table.specs.Keys.{by_pid};
+ghost use Rattle.kern_model.specs.ByNumber.{by_pid};
 
 use kern_model::Pid;
 use num_table::Table;

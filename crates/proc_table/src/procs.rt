@@ -1,11 +1,11 @@
 // The processes.
-ghost use Rattle.std.specs.Prelude.{◌≡◌, ◌↔◌, ◌≤◌, None, Some, Err, IfOk, OnErr, OnOk, drop, option_copied, option_map};
+ghost use Rattle.std.specs.Prelude.{◌≡◌, ◌↔◌, ◌≤◌, None, Err, IfOk, OnErr, OnOk, drop, option_copied, option_map};
 ghost use Rattle.std.specs.FinMap as map;
 ghost use Rattle.kern_model.specs.ProcessRows.{child_of};
-ghost use Rattle.kern_model.specs.State.{Process, drawn};
+ghost use Rattle.kern_model.specs.State.{drawn};
 ghost use Rattle.kern_model.specs.Valid.{IsThere};
 ghost use Rattle.kern_model.specs.declared.limits.TheConstants.{MAX_PROCS};
-ghost use Rattle.proc_table.specs.Procs.{creds_of, ended_by, has_living_child, next_in, no_procs, reaped, starting, with_new, with_process};
+ghost use Rattle.proc_table.specs.Procs.{ForProcess, creds_of, ended_by, has_living_child, next_in, no_procs, reaped, starting, with_new, with_process};
 
 use crate::process::Proc;
 use crate::table::Table;
@@ -104,9 +104,9 @@ impl Procs {
     /// like the process, but has it as its parent and no child of its own.
     pub fn fork(&mut self, parent: &Pid) -> Result<Pid, ProcError>
         requires { IsThere self.old.procs parent.now }
-        ensures who { (p : Process) → map.get self.old.procs parent.now ≡ Some p → IfOk result (λ who. who ≡ next_in self.old p.label) }
-        ensures made { (p : Process) → map.get self.old.procs parent.now ≡ Some p → OnOk result (self.new ≡ with_new self.old (child_of parent.now p)) }
-        ensures full { (p : Process) → map.get self.old.procs parent.now ≡ Some p → ((result ≡ Err ProcError.Full) ↔ (MAX_PROCS ≤ drawn self.old.numbers p.label)) }
+        ensures who { ForProcess self.old.procs parent.now (λ p. IfOk result (λ who. who ≡ next_in self.old p.label)) }
+        ensures made { ForProcess self.old.procs parent.now (λ p. OnOk result (self.new ≡ with_new self.old (child_of parent.now p))) }
+        ensures full { ForProcess self.old.procs parent.now (λ p. (result ≡ Err ProcError.Full) ↔ (MAX_PROCS ≤ drawn self.old.numbers p.label)) }
         ensures err { OnErr result (self.new ≡ self.old) }
     {
         let label = self.table.living.label(parent);
@@ -119,8 +119,8 @@ impl Procs {
     /// Takes the child of a living process that ended first off its list, and returns it with its ending. It takes no memory.
     pub fn reap(&mut self, who: &Pid) -> Result<(Pid, Ending), ReapError>
         requires { IsThere self.old.procs who.now }
-        ensures answer { (p : Process) → map.get self.old.procs who.now ≡ Some p → result ≡ reaped p.ended (has_living_child self.old.procs who.now) }
-        ensures taken { (p : Process) → map.get self.old.procs who.now ≡ Some p → OnOk result (self.new ≡ with_process self.old who.now (record p { ended = drop 1 p.ended })) }
+        ensures answer { ForProcess self.old.procs who.now (λ p. result ≡ reaped p.ended (has_living_child self.old.procs who.now)) }
+        ensures taken { ForProcess self.old.procs who.now (λ p. OnOk result (self.new ≡ with_process self.old who.now (record p { ended = drop 1 p.ended }))) }
         ensures err { OnErr result (self.new ≡ self.old) }
     {
         if let Some(first) = self.table.living.take_ended(who) {
@@ -136,7 +136,7 @@ impl Procs {
     /// ended. It takes no memory.
     pub fn finish(&mut self, who: &Pid, ending: Ending)
         requires { IsThere self.old.procs who.now }
-        ensures { (p : Process) → map.get self.old.procs who.now ≡ Some p → self.new ≡ record self.old { procs = ended_by self.old.procs who.now p ending } }
+        ensures { ForProcess self.old.procs who.now (λ p. self.new ≡ record self.old { procs = ended_by self.old.procs who.now p ending }) }
     {
         self.table.finish(who, ending);
     }
@@ -159,7 +159,7 @@ impl Procs {
     /// Sets the current directory of a living process. It takes no memory.
     pub fn set_cwd(&mut self, who: &Pid, cwd: Oid)
         requires { IsThere self.old.procs who.now }
-        ensures { (p : Process) → map.get self.old.procs who.now ≡ Some p → self.new ≡ with_process self.old who.now (record p { cwd = cwd }) }
+        ensures { ForProcess self.old.procs who.now (λ p. self.new ≡ with_process self.old who.now (record p { cwd = cwd })) }
     {
         let Some(process) = self.table.living.get_mut(who) else {
             unreachable!();
@@ -170,7 +170,7 @@ impl Procs {
     /// Sets the audit switch of a living process. It takes no memory.
     pub fn set_audited(&mut self, who: &Pid, on: bool)
         requires { IsThere self.old.procs who.now }
-        ensures { (p : Process) → map.get self.old.procs who.now ≡ Some p → self.new ≡ with_process self.old who.now (record p { audited = on }) }
+        ensures { ForProcess self.old.procs who.now (λ p. self.new ≡ with_process self.old who.now (record p { audited = on })) }
     {
         let Some(process) = self.table.living.get_mut(who) else {
             unreachable!();

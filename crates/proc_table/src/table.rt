@@ -1,11 +1,9 @@
 // The living processes, and which numbers are drawn.
-ghost use Rattle.std.specs.Prelude.{◌≡◌, ◌+◌, ◌<◌, ◌≤◌, [], Some, None, MatchOption, OnErr, OnOk};
+ghost use Rattle.std.specs.Prelude.{◌≡◌, [], None, OnErr, OnOk};
 ghost use Rattle.std.specs.FinMap as map;
-ghost use Rattle.kern_model.specs.State.{Process, drawn};
 ghost use Rattle.kern_model.specs.Valid.{IsThere};
-ghost use Rattle.kern_model.specs.declared.limits.TheConstants.{MAX_PROCS};
 ghost use Rattle.proc_table.specs.Children.{IsKept};
-ghost use Rattle.proc_table.specs.Procs.{all_parted, ended_by, told, with_ended};
+ghost use Rattle.proc_table.specs.Procs.{ForProcess, IsNextIn, all_parted, ended_by, without_ended};
 
 use crate::children::Children;
 use crate::living::Living;
@@ -55,7 +53,7 @@ impl Table {
 
     /// The number of the next process at a label, or `None` where all are drawn.
     pub fn next(&self, label: &Label) -> Option<Pid>
-        ensures { MatchOption result (MAX_PROCS ≤ drawn self.now.numbers label.now) (λ who. (who ≡ record { label = label.now; n = drawn self.now.numbers label.now + 1 }) × (drawn self.now.numbers label.now < MAX_PROCS)) }
+        ensures { IsNextIn self.now.numbers label.now result }
     {
         let last = self.numbers.last(label);
         if last as usize >= MAX_PROCS {
@@ -93,7 +91,7 @@ impl Table {
     pub fn finish(&mut self, who: &Pid, ending: Ending)
         requires there { IsThere self.old.living who.now }
         requires kept { IsKept self.old.living self.old.children self.old.made }
-        ensures living { (p : Process) → map.get self.old.living who.now ≡ Some p → self.new.living ≡ ended_by self.old.living who.now p ending }
+        ensures living { ForProcess self.old.living who.now (λ p. self.new.living ≡ ended_by self.old.living who.now p ending) }
         ensures numbers { self.new.numbers ≡ self.old.numbers }
         ensures kept { IsKept self.new.living self.new.children self.new.made }
     {
@@ -105,7 +103,7 @@ impl Table {
     fn end(&mut self, who: &Pid, ending: Ending)
         requires there { IsThere self.old.living who.now }
         requires kept { IsKept self.old.living self.old.children self.old.made }
-        ensures living { (p : Process) → map.get self.old.living who.now ≡ Some p → self.new.living ≡ told (map.remove self.old.living who.now) p.parent (with_ended who.now ending) }
+        ensures living { ForProcess self.old.living who.now (λ p. self.new.living ≡ without_ended self.old.living who.now p ending) }
         ensures numbers { self.new.numbers ≡ self.old.numbers }
         ensures kept { IsKept self.new.living self.new.children self.new.made }
     {

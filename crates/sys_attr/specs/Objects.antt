@@ -1,15 +1,17 @@
 -- The objects that calls name.
 use Rattle.cap_bits.specs.declared.state.CapState.{CapState}
+use Rattle.fs_path.specs.Path.{PathValue}
 use Rattle.lab_lattice.specs.Label.{Label}
-use Rattle.kern_model.specs.AttrRows.{asks_label, get_caps, get_label, on_open_object, set_caps, set_label}
+use Rattle.kern_model.specs.AttrRows.{asks_caps, asks_label, chown_row, on_open_object}
 use Rattle.kern_model.specs.declared.checks.Place.{Place}
 use Rattle.kern_model.specs.declared.numbers.Oid.{Oid}
 use Rattle.kern_model.specs.declared.numbers.Pid.{Pid}
 use Rattle.kern_model.specs.declared.objects.Object.{Object}
 use Rattle.kern_model.specs.Row.{Row}
-use Rattle.kern_model.specs.State.{State, Process, object_at}
+use Rattle.kern_model.specs.State.{State, Process, object_at, process_at}
 use Rattle.kern_model.specs.Walk.{on_path, read_object, write_object}
 use Rattle.sys_lookup.specs.Callers.{CallerView}
+use Rattle.sys_lookup.specs.declared.owning.Ownership.{Ownership}
 use Rattle.sys_lookup.specs.Shared.{metadata_of}
 use Rattle.sys_lookup.specs.declared.shared.Metadata.{Metadata}
 use Rattle.sys_attr.specs.declared.objects.ObjectArgument.{ObjectArgument}
@@ -19,22 +21,6 @@ use Rattle.sys_attr.specs.declared.objects.ObjectArgument.TheVariants as argumen
 abbrev pub on_argument : State → Process → ObjectArgument → (Oid → Place → Row) → Row
 on_argument s p (argument.Path path) k = on_path s p path.now k
 on_argument s p (argument.Descriptor fd) k = on_open_object s p fd k
-
--- the sets of the file that an argument names are read
-abbrev pub cap_get_row : State → Process → ObjectArgument → Row
-cap_get_row s p object = on_argument s p object (get_caps s p)
-
--- the sets of the file that an argument names are set
-abbrev pub cap_set_row : State → Pid → Process → ObjectArgument → CapState → Row
-cap_set_row s who p object caps = on_argument s p object (set_caps s who p caps)
-
--- the label of the object that an argument names is read
-abbrev pub mac_get_row : State → Process → ObjectArgument → Row
-mac_get_row s p object = on_argument s p object (get_label s p)
-
--- the label of the object that an argument names is set
-abbrev pub mac_set_row : State → Pid → Process → ObjectArgument → Label → Row
-mac_set_row s who p object label = on_argument s p object (set_label s who p label)
 
 -- the object that an argument names is found, and the row goes on with it and its place
 abbrev pub finding : State → Process → ObjectArgument → (Oid × Place → Row) → Row
@@ -56,6 +42,10 @@ reading s p object rest = finding s p object (λ r. read_found s p r rest)
 abbrev pub writing : State → Process → ObjectArgument → (Metadata × Place → Row) → Row
 writing s p object rest = finding s p object (λ r. write_found s p r rest)
 
+-- capability sets of a file of a state are asked for
+abbrev pub asks_caps_at : CallerView → CapState → State → Oid → Place → Row → Row
+asks_caps_at k caps s id place rest = asks_caps k.who k.process caps id place (object_at s id) rest
+
 -- a label of an object of the caller's state is asked for
 abbrev pub asks_label_at : CallerView → Label → Oid → Place → Row → Row
 asks_label_at k new id place rest = asks_label k.state k.process new id place (object_at k.state id) rest
@@ -67,3 +57,7 @@ on_read s k m = k (object_at s m.id)
 -- the row of an object that was written
 abbrev pub on_written : State → (Oid → Place → Object → Row) → Metadata × Place → Row
 on_written s k r = k r.0.id r.1 (object_at s r.0.id)
+
+-- the row of `chown` that a process calls
+abbrev pub ownership_row : State → Pid → PathValue → Ownership → Row
+ownership_row s who path to = chown_row s who (process_at s who) path to.owner to.group

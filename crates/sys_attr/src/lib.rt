@@ -3,6 +3,7 @@
 #![tactic(auto)]
 
 mod changing;
+mod fields;
 mod file_caps;
 mod labels;
 mod modes;
@@ -10,8 +11,7 @@ mod objects;
 mod owners;
 mod playing;
 
-pub use file_caps::{cap_get, cap_set};
-pub use labels::{mac_get, mac_set};
+pub use fields::{Field, Setting, get_field, set_field};
 pub use modes::{chmod, umask};
 pub use objects::ObjectArgument;
 pub use owners::chown;

@@ -1,7 +1,7 @@
 // The objects that calls name.
 ghost use Rattle.std.specs.Prelude.{◌≡◌, IfOk};
 ghost use Rattle.kern_model.specs.Valid.{IsThere, IsValid};
-ghost use Rattle.chk_rules.specs.Ends.{GoesOn};
+ghost use Rattle.chk_rules.specs.RowSteps.{GoesOn};
 ghost use Rattle.sys_lookup.specs.Callers.{IsLiving};
 ghost use Rattle.sys_lookup.specs.Shared.{metadata_of};
 ghost use Rattle.sys_attr.specs.Objects.{finding, reading, writing};

@@ -1,11 +1,12 @@
 // The call `chown`.
 ghost use Rattle.std.specs.Prelude.{IsSome};
 ghost use Rattle.std.specs.FinMap as map;
-ghost use Rattle.kern_model.specs.AttrRows.{asks_owner, chown_row};
-ghost use Rattle.kern_model.specs.State.{object_at, process_at};
+ghost use Rattle.kern_model.specs.AttrRows.{asks_owner};
+ghost use Rattle.kern_model.specs.State.{object_at};
 ghost use Rattle.kern_model.specs.Valid.{IsValid};
 ghost use Rattle.sys_lookup.specs.PlaysRow.{PlaysRow};
 ghost use Rattle.sys_lookup.specs.StepOn.{StepOn};
+ghost use Rattle.sys_attr.specs.Objects.{ownership_row};
 
 use crate::changing::give_attr;
 use crate::modes::{AskedMode, mode_kept};
@@ -24,7 +25,7 @@ pub fn chown(
 ) -> Result<Effect, Stop>
     requires valid { ∥ IsValid shared.old ∥₁ }
     requires living { IsSome (map.get shared.old.procs who.now) }
-    ensures { PlaysRow shared.old checks.old (chown_row shared.old who.now (process_at shared.old who.now) path.now to.owner to.group) result shared.new checks.new }
+    ensures { PlaysRow shared.old checks.old (ownership_row shared.old who.now path.now to) result shared.new checks.new }
 {
     let caller = Caller::new(shared, who);
     let (object, place) = write_named(&caller, checks, ObjectArgument::Path(path))?;

@@ -9,10 +9,9 @@ ghost use Rattle.sys_lookup.specs.Memory.{takes_no_memory};
 ghost use Rattle.sys_lookup.specs.PlaysRow.{LeavesNothing, PlaysRow};
 ghost use Rattle.sys_attr.specs.Playing.{is_attr_call};
 
-use crate::file_caps::{cap_get, cap_set};
-use crate::labels::{mac_get, mac_set};
+use crate::fields::{Field, Setting, get_field, set_field};
 use crate::modes::{chmod, umask};
-use crate::objects::ObjectArgument;
+use crate::objects::ObjectArgument::{Descriptor, Path};
 use crate::owners::chown;
 use chk_rules::{Checks, Stop};
 use kern_model::{Call, Pid};
@@ -20,6 +19,7 @@ use sys_lookup::{Effect, Ownership, Shared};
 
 /// Plays a call of a living process on modes, owners, the umask, capability sets of files, or labels of objects.
 #[inline(never)]
+#[tactic(auto, unfolding(kern_model::specs::Arguments::has_names))]
 pub fn play(
     shared: &mut Shared,
     checks: &mut Checks,
@@ -40,22 +40,22 @@ pub fn play(
             chown(shared, checks, who, path, Ownership { owner, group })
         }
         Call::Umask(mode) => umask(shared, checks, who, *mode),
-        Call::CapGetFile(path) => cap_get(shared, checks, who, ObjectArgument::Path(path)),
-        Call::CapGetFd(fd) => cap_get(shared, checks, who, ObjectArgument::Descriptor(*fd)),
+        Call::CapGetFile(path) => get_field(shared, checks, who, Path(path), Field::Caps),
+        Call::CapGetFd(fd) => get_field(shared, checks, who, Descriptor(*fd), Field::Caps),
+        Call::MacGetFile(path) => get_field(shared, checks, who, Path(path), Field::Label),
+        Call::MacGetFd(fd) => get_field(shared, checks, who, Descriptor(*fd), Field::Label),
         Call::CapSetFile(path, caps) => {
-            cap_set(shared, checks, who, ObjectArgument::Path(path), *caps)
+            set_field(shared, checks, who, Path(path), Setting::Caps(*caps))
         }
         Call::CapSetFd(fd, caps) => {
-            cap_set(shared, checks, who, ObjectArgument::Descriptor(*fd), *caps)
+            set_field(shared, checks, who, Descriptor(*fd), Setting::Caps(*caps))
         }
         Call::MacSetFile(path, label) => {
-            mac_set(shared, checks, who, ObjectArgument::Path(path), *label)
+            set_field(shared, checks, who, Path(path), Setting::Label(*label))
         }
         Call::MacSetFd(fd, label) => {
-            mac_set(shared, checks, who, ObjectArgument::Descriptor(*fd), *label)
+            set_field(shared, checks, who, Descriptor(*fd), Setting::Label(*label))
         }
-        Call::MacGetFile(path) => mac_get(shared, checks, who, ObjectArgument::Path(path)),
-        Call::MacGetFd(fd) => mac_get(shared, checks, who, ObjectArgument::Descriptor(*fd)),
         _ => unreachable!(),
     }
 }

@@ -1,11 +1,11 @@
 -- Rows that go one of two ways.
-use Rattle.std.specs.Prelude.{◌≡◌, Bool, true, false, None, Result, IfOk, OnOk, cond}
+use Rattle.std.specs.Prelude.{◌≡◌, Bool, true, false, None, Result, Ok, Err, IfOk, OnOk, cond, refl}
 use Rattle.std.proofs.Common.{sym, subst, ◌∙◌}
 use Rattle.kern_model.specs.declared.calls.Answer.{Answer}
 use Rattle.kern_model.specs.Row.{Row}
 use Rattle.kern_model.specs.State.{State}
 use Rattle.chk_rules.specs.CheckLog.{CheckLog}
-use Rattle.chk_rules.specs.Ends.{GoesOn}
+use Rattle.chk_rules.specs.RowSteps.{GoesOn}
 use Rattle.chk_rules.specs.declared.stop.Stop.{Stop}
 use Rattle.sys_lookup.specs.declared.effect.Effect.{Effect}
 use Rattle.sys_lookup.specs.PlaysRow.{PlaysRow}
@@ -43,3 +43,21 @@ module _ {X E : Type 0} {r given : Result X E} (same : r ≡ given) where
 
   pub if_ok : (Q : X → Type 0) → IfOk given Q → IfOk r Q
   if_ok Q holds = subst (λ x. IfOk x Q) (sym same) holds
+
+-- What a condition is that decides whether a result is a value or an error.
+module _ {X E : Type 0} {r : Result X E} {x : X} {e : E} where
+  pub no_error : (b : Bool) → (b ≡ true → r ≡ Err e) → r ≡ Ok x → b ≡ false
+  no_error true fails is = let h = fails refl in absurd (cc)
+  no_error false fails is = refl
+
+  pub no_value : (b : Bool) → (b ≡ false → r ≡ Ok x) → r ≡ Err e → b ≡ true
+  no_value true gives is = refl
+  no_value false gives is = let h = gives refl in absurd (cc)
+
+  pub not_error : (b : Bool) → (b ≡ false → r ≡ Err e) → r ≡ Ok x → b ≡ true
+  not_error true fails is = refl
+  not_error false fails is = let h = fails refl in absurd (cc)
+
+  pub not_value : (b : Bool) → (b ≡ true → r ≡ Ok x) → r ≡ Err e → b ≡ false
+  not_value true gives is = let h = gives refl in absurd (cc)
+  not_value false gives is = refl

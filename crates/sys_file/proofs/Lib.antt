@@ -1,6 +1,8 @@
+pub mod AccessLemmas
 pub mod BranchLemmas
 pub mod ObjectLemmas
 pub mod OpenLemmas
+pub mod OpenRowLemmas
 pub mod PipeLemmas
 pub mod ReadLemmas
 pub mod ReferLemmas

@@ -15,8 +15,6 @@ use Rattle.kern_model.specs.State.{State, Description, object_at, stub_object}
 use Rattle.kern_model.specs.Valid.{IsValid}
 use Rattle.kern_model.proofs.MapLemmas.{get_or-absent, get_or-found, never_some, some_same}
 use Rattle.fs_nodes.specs.Nodes.{IsFile, IsStream}
-use Rattle.sys_lookup.specs.Shared.{metadata_of}
-use Rattle.sys_lookup.specs.declared.shared.Metadata.{Metadata}
 
 -- what is there is what is read
 pub object_is : (s : State) (id : Oid) (o : Object) → map.get s.objects id ≡ Some o → object_at s id ≡ o
@@ -62,10 +60,6 @@ stream_there s id stream =
           cc
       | Some o ↦ λ is. record { object = o; is = is; stream = ap (λ (x : Object). is_stream x.kind) (sym (object_is s id o is)) ∙ stream }
     ] refl
-
--- whether it is a stream, as metadata says
-pub stream_is : (s : State) {id at : Oid} {m : Metadata} {b c : Bool} → id ≡ at → m ≡ metadata_of s id → b ≡ is_stream m.kind → b ≡ c → is_stream (object_at s at).kind ≡ c
-stream_is s same is reads known = ap (λ x. is_stream (object_at s x).kind) (sym same) ∙ ap (λ (m : Metadata). is_stream m.kind) (sym is) ∙ sym reads ∙ known
 
 -- few bytes wait in a stream of a valid state
 pub few_wait : (s : State) → ∥ IsValid s ∥₁ → (id : Oid) (o : Object) → map.get s.objects id ≡ Some o → is_stream o.kind ≡ true → length o.bytes ≤ MAX_PIPE_BYTES

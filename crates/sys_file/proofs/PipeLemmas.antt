@@ -18,7 +18,7 @@ use Rattle.kern_model.proofs.KeyLaws.{pid_cmp_total, pid_cmp_exact}
 use Rattle.kern_model.proofs.MapLemmas.{get-insert_same, get_or-found}
 use Rattle.kern_model.proofs.StateLemmas.{process_is}
 use Rattle.fd_table.proofs.Loops.{set_twice}
-use Rattle.sys_file.specs.Ends.{end_flags}
+use Rattle.sys_file.specs.PipeEnds.{end_flags}
 
 at_most_one_more : (b : Bool) (n : ℕ) → cond b n (n + 1) ≤ n + 1
 at_most_one_more true n = omega arith

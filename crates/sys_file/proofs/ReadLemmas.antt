@@ -11,7 +11,7 @@ use Rattle.kern_model.specs.Row.{Row, Need, need_if}
 use Rattle.kern_model.specs.Rules.{mac_write}
 use Rattle.kern_model.specs.State.{State, Process}
 use Rattle.chk_rules.specs.CheckLog.{CheckLog}
-use Rattle.chk_rules.specs.Ends.{GoesOn}
+use Rattle.chk_rules.specs.RowSteps.{GoesOn}
 use Rattle.chk_rules.specs.declared.stop.Stop.{Stop}
 use Rattle.sys_lookup.specs.declared.effect.Effect.{Effect}
 use Rattle.sys_lookup.specs.PlaysRow.{PlaysRow}

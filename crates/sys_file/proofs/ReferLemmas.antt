@@ -5,23 +5,20 @@ use Rattle.std.specs.Ordering.{nat_cmp}
 use Rattle.std.specs.FinMap as map
 use Rattle.std.proofs.Common.{ap, arith, leb-false, leb-true, subst, sym, ◌∙◌}
 use Rattle.kern_model.specs.declared.numbers.Did.{Did}
-use Rattle.kern_model.specs.declared.checks.Place.TheVariants.{Handle}
 use Rattle.kern_model.specs.declared.limits.TheConstants.{MAX_DESCRIPTORS}
 use Rattle.kern_model.specs.declared.numbers.Oid.{Oid}
 use Rattle.kern_model.specs.declared.numbers.Pid.{Pid}
 use Rattle.kern_model.specs.Descriptors.{Opened, opened}
 use Rattle.kern_model.specs.Row.{Row}
 use Rattle.kern_model.specs.State.{State, Process, Description, process_at, stub_process}
-use Rattle.kern_model.specs.Walk.{read_object, write_object}
 use Rattle.chk_rules.specs.CheckLog.{CheckLog}
-use Rattle.chk_rules.specs.Ends.{GoesOn}
+use Rattle.chk_rules.specs.RowSteps.{GoesOn}
 use Rattle.chk_rules.specs.declared.stop.Stop.{Stop}
 use Rattle.kern_model.proofs.MapLemmas.{get_or-absent, never_some, some_same}
 use Rattle.kern_model.proofs.StateLemmas.{process_is, process_there}
 use Rattle.sys_lookup.specs.Callers.{CallerView, caller_in}
-use Rattle.sys_lookup.specs.declared.shared.Metadata.{Metadata}
 use Rattle.sys_lookup.specs.declared.shared.Shared.TheInside.{Inside}
-use Rattle.sys_lookup.specs.Shared.{metadata_of, state_of}
+use Rattle.sys_lookup.specs.Shared.{state_of}
 use Rattle.sys_lookup.proofs.FdLemmas.{StandsIn, stands_in}
 use Rattle.sys_lookup.proofs.OpenedLemmas.{RefersInTables, refers_to}
 use Rattle.sys_lookup.proofs.StandsLemmas.{opened_is}
@@ -64,13 +61,13 @@ opener_there s who fd f is =
     ] refl
 
 -- a living process stands in the table
-pub caller_stands : (h : Inside) {s : State} → state_of h ≡ s → (who : Pid) → IsSome (map.get s.procs who) → StandsIn h.procs.procs h.fds.rows who (process_at s who)
-caller_stands h {s} is who living = stands_in h.procs.procs h.fds.rows who (process_at s who) (ap (λ (x : State). map.get x.procs who) is ∙ process_there s who living)
+pub caller_stands : (h : Inside) {s : State} → state_of h ≡ s → (who : Pid) → IsSome (map.get s.procs who) → StandsIn h.procs.procs h.fds.processes who (process_at s who)
+caller_stands h {s} is who living = stands_in h.procs.procs h.fds.processes who (process_at s who) (ap (λ (x : State). map.get x.procs who) is ∙ process_there s who living)
 
 -- What is open in a state stands in the tables that it is made of.
 module _ (h : Inside) {s : State} (is : state_of h ≡ s) (who : Pid) (fd : ℕ) (f : Opened) (found : opened s (process_at s who) fd ≡ Some f) where
-  pub opener : StandsIn h.procs.procs h.fds.rows who (process_at s who)
-  opener = stands_in h.procs.procs h.fds.rows who (process_at s who) (ap (λ (x : State). map.get x.procs who) is ∙ opener_there s who fd f found)
+  pub opener : StandsIn h.procs.procs h.fds.processes who (process_at s who)
+  opener = stands_in h.procs.procs h.fds.processes who (process_at s who) (ap (λ (x : State). map.get x.procs who) is ∙ opener_there s who fd f found)
 
   pub referred : RefersInTables h.fds who fd f
   referred = refers_to h.fds who fd f (opened_is h (caller_in s who) is (opener_there s who fd f found) fd ∙ found)
@@ -83,13 +80,6 @@ one_is_free n h = omega (arith, leb-true (n + 1) MAX_DESCRIPTORS h)
 pub none_is_free : (n : ℕ) → nat_le (n + 1) MAX_DESCRIPTORS ≡ false → MAX_DESCRIPTORS ≤ n
 none_is_free n h = omega (arith, leb-false (n + 1) MAX_DESCRIPTORS h)
 
--- ---- an object is read or written under an equal number
-
-module _ (s : State) (p : Process) {a b : CheckLog} {r : Result Metadata Stop} {id at : Oid} where
-  pub read_there : id ≡ at → GoesOn a (λ (rest : Metadata → Row). read_object s p id Handle (λ _. rest (metadata_of s id))) r b
-      → GoesOn a (λ (rest : Metadata → Row). read_object s p at Handle (λ _. rest (metadata_of s at))) r b
-  read_there same step = subst (λ x. GoesOn a (λ (rest : Metadata → Row). read_object s p x Handle (λ _. rest (metadata_of s x))) r b) same step
-
-  pub write_there : id ≡ at → GoesOn a (λ (rest : Metadata → Row). write_object s p id Handle (λ _. rest (metadata_of s id))) r b
-      → GoesOn a (λ (rest : Metadata → Row). write_object s p at Handle (λ _. rest (metadata_of s at))) r b
-  write_there same step = subst (λ x. GoesOn a (λ (rest : Metadata → Row). write_object s p x Handle (λ _. rest (metadata_of s x))) r b) same step
+-- a step on an object is one on an equal one
+pub step_at : {X : Type 0} (part : Oid → (X → Row) → Row) {a b : CheckLog} {r : Result X Stop} {id at : Oid} → id ≡ at → GoesOn a (part id) r b → GoesOn a (part at) r b
+step_at part {a} {b} {r} same step = subst (λ x. GoesOn a (part x) r b) same step

@@ -21,15 +21,6 @@ use Rattle.sys_file.proofs.ObjectLemmas.{object_is}
 
 -- ---- which case it is, by how a call on a stream ended
 
-module _ {X : Type 0} {r : Result X PipeError} {e : PipeError} where
-  pub no_error : (b : Bool) → (b ≡ true → r ≡ Err e) → (x : X) → r ≡ Ok x → b ≡ false
-  no_error true fails x is = let h = fails refl in absurd (cc)
-  no_error false fails x is = refl
-
-  pub no_value : (b : Bool) → (x : X) → (b ≡ false → r ≡ Ok x) → r ≡ Err e → b ≡ true
-  no_value true x gives is = refl
-  no_value false x gives is = let h = gives refl in absurd (cc)
-
 pub ok_value : {X E : Type 0} {r : Result X E} (x y : X) → r ≡ Ok x → r ≡ Ok y → x ≡ y
 ok_value x y one other = cc
 

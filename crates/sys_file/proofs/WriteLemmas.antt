@@ -14,7 +14,7 @@ use Rattle.lab_lattice.specs.Label.{bottom}
 use Rattle.kern_model.specs.Row.{Row, Refuse}
 use Rattle.kern_model.specs.State.{State, Change, changed}
 use Rattle.chk_rules.specs.CheckLog.{CheckLog, check_log}
-use Rattle.chk_rules.specs.Ends.{GoesOn}
+use Rattle.chk_rules.specs.RowSteps.{GoesOn}
 use Rattle.chk_rules.specs.declared.stop.Stop.{Stop}
 use Rattle.sys_lookup.specs.declared.effect.Effect.{Effect}
 use Rattle.sys_lookup.specs.PlaysRow.{PlaysRow}

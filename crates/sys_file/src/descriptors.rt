@@ -1,18 +1,18 @@
 // The calls `close`, `dup`, `lseek` and `fstat`.
 ghost use Rattle.std.specs.Prelude.{◌≡◌, ◌≤◌, ◌+ℤ◌, ℕ, ℤ, pos, None, Some, IfOk, IsSome, false, true, length};
 ghost use Rattle.std.specs.FinMap as map;
-ghost use Rattle.kern_model.specs.Descriptors.{Opened as Open, opened};
-ghost use Rattle.kern_model.specs.FileRows.{base_of, close_row, closes, dup_row, fstat_row, lseek_row, moves, open_object, opened_to_seek, repeat};
+ghost use Rattle.kern_model.specs.Descriptors.{opened};
+ghost use Rattle.kern_model.specs.FileRows.{base_of, close_row, closes, dup_row, fstat_row, moves, open_object, opened_to_seek, repeat};
 ghost use Rattle.kern_model.specs.Kinds.{is_stream};
 ghost use Rattle.kern_model.specs.State.{State, changed_by, object_at, process_at};
 ghost use Rattle.kern_model.specs.Valid.{IsValid};
 ghost use Rattle.kern_model.specs.declared.limits.TheConstants.{MAX_FILE_BYTES};
 ghost use Rattle.kern_model.specs.declared.numbers.Pid.{Pid as Number};
 ghost use Rattle.chk_rules.specs.CheckLog.{CheckLog};
-ghost use Rattle.chk_rules.specs.Ends.{GoesOn};
+ghost use Rattle.chk_rules.specs.RowSteps.{GoesOn};
 ghost use Rattle.fd_table.specs.Files.{is_past};
 ghost use Rattle.sys_lookup.specs.PlaysRow.{LeavesNothing, PlaysRow};
-ghost use Rattle.sys_file.specs.Descriptors.{IsOpen, RefersTo};
+ghost use Rattle.sys_file.specs.Descriptors.{IsOpen, PlaysOpened, seek_row};
 
 use chk_rules::{Checks, Stop, refuse_if};
 use fd_table::Opened;
@@ -57,7 +57,7 @@ pub fn dup(shared: &mut Shared, who: &Pid, fd: Fd) -> Result<Effect, Stop>
 // Has the lowest descriptor that is free refer to what a descriptor refers to that is open.
 fn repeat(shared: &mut Shared, who: &Pid, fd: Fd) -> Result<Effect, Stop>
     requires { IsOpen shared.old who.now fd }
-    ensures played { (f : Open) (log : CheckLog) → RefersTo shared.old who.now fd f → PlaysRow shared.old log (repeat who.now (process_at shared.old who.now) f) result shared.new log }
+    ensures played { PlaysOpened shared.old who.now fd (repeat who.now (process_at shared.old who.now)) result shared.new }
     ensures nothing { LeavesNothing result }
 {
     match shared.fds.dup(who, fd) {
@@ -94,7 +94,7 @@ pub fn lseek(
 ) -> Result<Effect, Stop>
     requires valid { ∥ IsValid shared.old ∥₁ }
     requires living { IsSome (map.get shared.old.procs who.now) }
-    ensures { PlaysRow shared.old checks.old (lseek_row shared.old who.now (process_at shared.old who.now) fd seek.from seek.offset) result shared.new checks.new }
+    ensures { PlaysRow shared.old checks.old (seek_row shared.old who.now fd seek) result shared.new checks.new }
 {
     let caller = Caller::new(shared, who);
     let opened = opened_to_seek(&caller, checks, fd)?;
@@ -107,7 +107,7 @@ pub fn lseek(
 
 // Moves the offset of a descriptor on a file of so many bytes, or refuses where it is not within them.
 fn move_to(shared: &mut Shared, who: &Pid, fd: Fd, to: i64, size: u32) -> Result<Effect, Stop>
-    ensures { (f : Open) (log : CheckLog) → RefersTo shared.old who.now fd f → PlaysRow shared.old log (moves f to size) result shared.new log }
+    ensures { PlaysOpened shared.old who.now fd (λ f. moves f to size) result shared.new }
 {
     match shared.fds.seek(who, fd, to, size) {
         Ok(offset) => Ok(Effect::answers(Answer::Number(offset))),

@@ -1,6 +1,7 @@
 //! The bodies of the calls on descriptors, and of those that open or make what descriptors refer to.
 #![tactic(auto)]
 
+mod access;
 mod descriptors;
 mod offsets;
 mod opening;

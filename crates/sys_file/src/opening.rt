@@ -6,20 +6,19 @@ ghost use Rattle.kern_model.specs.Descriptors.{lowest_free};
 ghost use Rattle.kern_model.specs.Entries.{is_removed};
 ghost use Rattle.kern_model.specs.FileRows.{has_descriptions, has_free_descriptors, opening, rewritten};
 ghost use Rattle.kern_model.specs.Kinds.{is_fifo, is_file};
-ghost use Rattle.kern_model.specs.OpenRows.{allowed_by_kind, allowed_by_label, allowed_by_mode, emptying, open_row, opens_new, opens_present, to_absent, to_emptied, to_present};
+ghost use Rattle.kern_model.specs.OpenRows.{allowed_by_kind, allowed_by_label, allowed_by_mode, emptying, to_absent, to_emptied, to_present};
 ghost use Rattle.kern_model.specs.State.{State, changed, changed_by, look, object_at, process_at};
 ghost use Rattle.kern_model.specs.Valid.{IsDir, IsValid};
 ghost use Rattle.kern_model.specs.declared.numbers.Oid.{Oid as Number};
-ghost use Rattle.kern_model.specs.declared.objects.Body.TheVariants as body;
 ghost use Rattle.kern_model.specs.declared.objects.Object.{Object};
 ghost use Rattle.chk_rules.specs.CheckLog.{CheckLog};
-ghost use Rattle.chk_rules.specs.Ends.{GoesOn};
+ghost use Rattle.chk_rules.specs.RowSteps.{GoesOn};
 ghost use Rattle.fd_table.specs.Files.{is_no_memory};
 ghost use Rattle.fs_nodes.specs.Nodes.{IsFile};
 ghost use Rattle.sys_lookup.specs.PlaysRow.{PlaysRow};
 ghost use Rattle.sys_lookup.specs.Shared.{metadata_of};
 ghost use Rattle.sys_lookup.specs.StepOn.{StepOn};
-ghost use Rattle.sys_file.specs.Opening.{CanBeEmptied, EmptiesFiles};
+ghost use Rattle.sys_file.specs.Opening.{CanBeEmptied, EmptiesFiles, opens_file, opens_object, request_row};
 
 use chk_rules::{Checks, Stop, refuse_if};
 use fd_table::{FdError, How};
@@ -27,7 +26,7 @@ use kern_model::{
     Answer, Attr, Body, ByteList, Errno, Fd, Kind, Mode, NoMemory, Oid, OpenFlags, Path, Pid, Place,
 };
 use std::alloc::Global;
-use sys_lookup::{Caller, Effect, Found, Metadata, NewObject, PathArgument, Shared, Spot, create};
+use sys_lookup::{Caller, Effect, Found, Metadata, PathArgument, Shared, Spot, create, must_if};
 
 /// What `open` is asked for: a path, flags, and the mode of a file that is made, before the caller's umask.
 #[derive(Clone, Copy)]
@@ -47,10 +46,10 @@ pub fn open(
 ) -> Result<Effect, Stop>
     requires valid { ∥ IsValid shared.old ∥₁ }
     requires living { IsSome (map.get shared.old.procs who.now) }
-    ensures played { PlaysRow shared.old checks.old (open_row shared.old who.now (process_at shared.old who.now) opening.now.path.now opening.now.flags opening.now.mode) result shared.new checks.new }
+    ensures played { PlaysRow shared.old checks.old (request_row shared.old who.now opening.now) result shared.new checks.new }
     ensures names { are_names opening.now.path.now ≡ true }
 {
-    let OpenRequest { path, flags, mode } = *opening;
+    let (path, flags) = (opening.path, opening.flags);
     let _names = path.components();
     let caller = Caller::new(shared, who);
     caller.may_open(1)?;
@@ -69,9 +68,7 @@ pub fn open(
             None => {
                 let place = PathArgument::First.dir_place(path);
                 may_make(&caller, checks, flags, &dir, place)?;
-                let mode = mode.unwrap_or(0);
-                let body = Body::File(ByteList::new(alloc));
-                open_new(shared, who, &(dir, name), flags, NewObject { mode, body })
+                open_new(alloc, shared, who, &(dir, name), opening)
             }
         },
     }
@@ -121,8 +118,8 @@ fn label_allows(
 ) -> Result<(), Stop>
     ensures { StepOn checks.old object.now (λ s id rest. allowed_by_label caller.now.process flags id place (object_at s id) (rest tt)) result checks.new }
 {
-    caller.mac_read_if(flags.r, checks, object, place)?;
-    caller.mac_write_if(flags.w, checks, object, place)
+    must_if(flags.r, checks, &caller.mac_read_check(object, place))?;
+    must_if(flags.w, checks, &caller.mac_write_check(object, place))
 }
 
 // Checks that an object is of a kind that the caller may open so.
@@ -138,7 +135,7 @@ fn kind_allows(
     refuse_if(object.is_directory(), Errno::EISDIR)?;
     let drains = both(is_fifo(object.kind), flags.r);
     refuse_if(both(drains, flags.w), Errno::EINVAL)?;
-    caller.mac_write_if(drains, checks, object, place)
+    must_if(drains, checks, &caller.mac_write_check(object, place))
 }
 
 // Checks that the caller may open an object by its mode.
@@ -151,8 +148,8 @@ fn mode_allows(
 ) -> Result<(), Stop>
     ensures { StepOn checks.old object.now (λ s id rest. allowed_by_mode caller.now.process flags id place (object_at s id) (rest tt)) result checks.new }
 {
-    caller.dac_read_if(flags.r, checks, object, place)?;
-    caller.dac_write_if(flags.w, checks, object, place)
+    must_if(flags.r, checks, &caller.dac_read_check(object, place))?;
+    must_if(flags.w, checks, &caller.dac_write_check(object, place))
 }
 
 // The attributes with which a file is emptied, if it is.
@@ -207,7 +204,7 @@ fn open_present(
     requires free { has_free_descriptors (process_at shared.old who.now) 1 ≡ true }
     requires left { has_descriptions shared.old (process_at shared.old who.now) 1 ≡ true }
     requires file { CanBeEmptied shared.old id.now emptied }
-    ensures { (log : CheckLog) → PlaysRow shared.old log (opens_present shared.old who.now (process_at shared.old who.now) flags id.now (object_at shared.old id.now) emptied) result shared.new log }
+    ensures { (log : CheckLog) → PlaysRow shared.old log (opens_object shared.old who.now flags id.now emptied) result shared.new log }
 {
     let fd = describe(shared, who, id, flags)?;
     set_content(shared, id, emptied);
@@ -216,11 +213,11 @@ fn open_present(
 
 // Makes an empty file of the caller under a new name, and opens it.
 fn open_new(
+    alloc: Global,
     shared: &mut Shared,
     who: &Pid,
     spot: &Spot<'_>,
-    flags: OpenFlags,
-    file: NewObject,
+    opening: &OpenRequest<'_>,
 ) -> Result<Effect, Stop>
     requires valid { ∥ IsValid shared.old ∥₁ }
     requires living { IsSome (map.get shared.old.procs who.now) }
@@ -229,14 +226,15 @@ fn open_new(
     requires dir { IsDir shared.old.objects spot.now.0 }
     requires stands { is_removed shared.old spot.now.0 ≡ false }
     requires absent { look shared.old spot.now.0 spot.now.1 ≡ None }
-    requires empty { file.body ≡ body.File [] }
-    ensures { (log : CheckLog) → PlaysRow shared.old log (opens_new shared.old who.now (process_at shared.old who.now) flags file.mode spot.now.0 spot.now.1) result shared.new log }
+    ensures { (log : CheckLog) → PlaysRow shared.old log (opens_file shared.old who.now opening.now spot.now) result shared.new log }
 {
     let caller = Caller::new(shared, who);
-    let attr = caller.new_attr(file.mode);
+    let mode = opening.mode.unwrap_or(0);
+    let attr = caller.new_attr(mode);
     let label = caller.label();
-    let id = create(shared, spot, label, attr, file.body)?;
-    let fd = describe(shared, who, &id, flags)?;
+    let empty = ByteList::new(alloc);
+    let id = create(shared, spot, label, attr, Body::File(empty))?;
+    let fd = describe(shared, who, &id, opening.flags)?;
     Ok(Effect::answers(Answer::Number(fd)))
 }
 

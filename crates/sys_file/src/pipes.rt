@@ -9,7 +9,7 @@ ghost use Rattle.kern_model.specs.TreeRows.{mkfifo_row};
 ghost use Rattle.kern_model.specs.Valid.{IsValid};
 ghost use Rattle.chk_rules.specs.CheckLog.{CheckLog};
 ghost use Rattle.sys_lookup.specs.PlaysRow.{PlaysRow};
-ghost use Rattle.sys_file.specs.Ends.{end_flags};
+ghost use Rattle.sys_file.specs.PipeEnds.{end_flags};
 
 use crate::opening::describe;
 use cap_bits::CapState;

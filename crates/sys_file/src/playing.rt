@@ -21,6 +21,7 @@ use sys_lookup::{Caller, Effect, Shared};
 
 /// Plays a call of a living process on descriptors, or one that opens or makes what descriptors refer to.
 #[inline(never)]
+#[tactic(auto, unfolding(kern_model::specs::Arguments::has_names))]
 pub fn play(
     alloc: Global,
     shared: &mut Shared,

@@ -1,19 +1,18 @@
 // The call `read`.
 ghost use Rattle.std.specs.Prelude.{◌≡◌, Some, IfOk, IsSome, drop, false, take, true};
 ghost use Rattle.std.specs.FinMap as map;
-ghost use Rattle.kern_model.specs.Descriptors.{opened};
-ghost use Rattle.kern_model.specs.FileRows.{comes_out, open_object, opened_to_read, read_row};
+ghost use Rattle.kern_model.specs.FileRows.{comes_out, open_object, read_row};
 ghost use Rattle.kern_model.specs.State.{process_at};
 ghost use Rattle.kern_model.specs.Valid.{IsValid};
 ghost use Rattle.kern_model.specs.declared.objects.Object.{Object};
 ghost use Rattle.chk_rules.specs.CheckLog.{CheckLog};
-ghost use Rattle.chk_rules.specs.Ends.{GoesOn};
 ghost use Rattle.fs_nodes.specs.Nodes.{IsFile, IsStream};
 ghost use Rattle.sys_lookup.specs.PlaysRow.{PlaysRow};
 ghost use Rattle.sys_file.specs.Descriptors.{RefersTo};
 
+use crate::access::{Access, opened_for};
 use crate::offsets::set_offset;
-use chk_rules::{Checks, Stop, refuse_if};
+use chk_rules::{Checks, Stop};
 use fd_table::{Opened, PipeError};
 use kern_model::limits::MAX_PIPE_BYTES;
 use kern_model::{Answer, ByteList, Errno, Fd, NoMemory, Oid, Pid, Place};
@@ -32,24 +31,12 @@ pub fn read(
     ensures { PlaysRow shared.old checks.old (read_row shared.old who.now (process_at shared.old who.now) fd n) result shared.new checks.new }
 {
     let caller = Caller::new(shared, who);
-    let opened = opened_to_read(&caller, checks, fd)?;
-    let object = shared.metadata(&opened.object);
+    let (opened, object) = opened_for(&caller, checks, fd, Access::Read)?;
     if !object.is_stream() {
         return read_file(shared, who, fd, &opened, n);
     }
     caller.mac_write(checks, &object, Place::Handle)?;
     read_stream(shared, &opened, n)
-}
-
-// A descriptor that is open for reading, on an object that the caller may read by label.
-fn opened_to_read(caller: &Caller<'_>, checks: &mut Checks, fd: Fd) -> Result<Opened, Stop>
-    ensures step { GoesOn checks.old (opened_to_read caller.now.state caller.now.process fd) result checks.new }
-    ensures found { IfOk result (λ f. opened caller.now.state caller.now.process fd ≡ Some f) }
-{
-    let opened = caller.opened(fd)?;
-    refuse_if(!opened.how.reads, Errno::EBADF)?;
-    caller.read_object(checks, &opened.object, Place::Handle)?;
-    Ok(opened)
 }
 
 // Reads up to `n` bytes of a file from the offset on, which moves after them.

@@ -2,7 +2,7 @@
 ghost use Rattle.std.specs.Prelude.{◌≡◌, ◌+◌, ◌≤◌, ℕ, None, Some, IfOk, IsSome, OnOk, length};
 ghost use Rattle.std.specs.FinMap as map;
 ghost use Rattle.kern_model.specs.Descriptors.{Opened as Description, opened};
-ghost use Rattle.kern_model.specs.FileRows.{moved, open_object, opened_to_write, place_in, putting, rewritten, to_place, write_row, written_over};
+ghost use Rattle.kern_model.specs.FileRows.{moved, open_object, place_in, putting, to_place, write_row};
 ghost use Rattle.kern_model.specs.State.{changed, object_at, process_at};
 ghost use Rattle.kern_model.specs.Valid.{IsValid};
 ghost use Rattle.kern_model.specs.declared.calls.Answer.TheVariants as answer;
@@ -10,11 +10,13 @@ ghost use Rattle.kern_model.specs.declared.limits.TheConstants.{MAX_FILE_BYTES};
 ghost use Rattle.kern_model.specs.declared.numbers.Pid.{Pid as Number};
 ghost use Rattle.kern_model.specs.declared.objects.Object.{Object};
 ghost use Rattle.chk_rules.specs.CheckLog.{CheckLog};
-ghost use Rattle.chk_rules.specs.Ends.{GoesOn};
+ghost use Rattle.chk_rules.specs.RowSteps.{GoesOn};
 ghost use Rattle.fs_nodes.specs.Nodes.{IsFile, IsStream};
 ghost use Rattle.sys_lookup.specs.PlaysRow.{PlaysRow};
 ghost use Rattle.sys_file.specs.Descriptors.{IsOpen, RefersTo};
+ghost use Rattle.sys_file.specs.Writing.{overwritten};
 
+use crate::access::{Access, opened_for};
 use crate::offsets::set_offset;
 use chk_rules::{Checks, Stop, refuse_if};
 use fd_table::{Opened, PipeError};
@@ -36,8 +38,7 @@ pub fn write(
     ensures { PlaysRow shared.old checks.old (write_row shared.old who.now (process_at shared.old who.now) fd bytes.now) result shared.new checks.new }
 {
     let caller = Caller::new(shared, who);
-    let opened = opened_to_write(&caller, checks, fd)?;
-    let object = shared.metadata(&opened.object);
+    let (opened, object) = opened_for(&caller, checks, fd, Access::Write)?;
     if object.is_stream() {
         return write_stream(shared, &opened, bytes);
     }
@@ -48,17 +49,6 @@ pub fn write(
     let attr = caller.kept_attr(checks, &object, Place::Handle)?;
     overwrite(shared, &opened.object, at, bytes, attr)?;
     Ok(move_after(shared, who, fd, at, bytes))
-}
-
-// A descriptor that is open for writing, on an object that the caller may write by label.
-fn opened_to_write(caller: &Caller<'_>, checks: &mut Checks, fd: Fd) -> Result<Opened, Stop>
-    ensures step { GoesOn checks.old (opened_to_write caller.now.state caller.now.process fd) result checks.new }
-    ensures found { IfOk result (λ f. opened caller.now.state caller.now.process fd ≡ Some f) }
-{
-    let opened = caller.opened(fd)?;
-    refuse_if(!opened.how.writes, Errno::EBADF)?;
-    caller.write_object(checks, &opened.object, Place::Handle)?;
-    Ok(opened)
 }
 
 // Puts bytes at the end of a pipe or FIFO.
@@ -112,7 +102,7 @@ fn overwrite(
     requires within { at ≤ length (object_at shared.old id.now).bytes }
     requires few { at + length bytes.now ≤ MAX_FILE_BYTES }
     ensures open { (who : Number) (fd : ℕ) → opened shared.new (process_at shared.new who) fd ≡ opened shared.old (process_at shared.old who) fd }
-    ensures written { OnOk result (shared.new ≡ changed shared.old (rewritten id.now (object_at shared.old id.now) (written_over (object_at shared.old id.now).bytes at bytes.now) attr)) }
+    ensures written { OnOk result (shared.new ≡ changed shared.old (overwritten shared.old id.now at bytes.now attr)) }
 {
     match shared.tree.write_at(id, at, bytes) {
         Ok(()) => {

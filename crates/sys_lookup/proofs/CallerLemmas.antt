@@ -2,7 +2,7 @@
 use Rattle.std.specs.Prelude.{◌≡◌, Option, None, Some, MatchOption}
 use Rattle.std.specs.FinMap as map
 use Rattle.std.proofs.Common.{ap, sym, ◌∙◌, subst}
-use Rattle.fd_table.specs.Rows.{Fds}
+use Rattle.fd_table.specs.Fds.{Fds}
 use Rattle.kern_model.specs.declared.numbers.Pid.{Pid}
 use Rattle.kern_model.specs.State.{State, Process, process_at}
 use Rattle.kern_model.proofs.StateLemmas.{process_is}

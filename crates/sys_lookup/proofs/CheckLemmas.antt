@@ -10,7 +10,7 @@ use Rattle.kern_model.specs.Row.{Row, Need, Refuse, Commit, Subject, Fail, Stopp
 use Rattle.kern_model.specs.Rules.{cap_of}
 use Rattle.kern_model.proofs.RowLemmas.{judge-stop, judge-fail}
 use Rattle.chk_rules.specs.CheckLog.{CheckLog}
-use Rattle.chk_rules.specs.Ends.{GoesOn}
+use Rattle.chk_rules.specs.RowSteps.{GoesOn}
 use Rattle.chk_rules.specs.declared.stop.Stop.{Stop}
 
 -- denied, where the rule fails and no capability helps

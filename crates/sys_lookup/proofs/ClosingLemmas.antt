@@ -53,12 +53,12 @@ module _ (s : State) (did : Did) where
       ] refl
 
 -- the table shows the descriptors of the state
-pub table_shows : (h : Inside) → ∥ HasOwners h.procs.procs h.fds.rows ∥₁ → ∥ IsValid (state_of h) ∥₁ → Shows (state_of h) h.fds
+pub table_shows : (h : Inside) → ∥ HasOwners h.procs.procs h.fds.processes ∥₁ → ∥ IsValid (state_of h) ∥₁ → Shows (state_of h) h.fds
 table_shows h owners valid =
     let s = state_of h in
     record {
       descriptions = refl;
-      fds = λ who p there. let q = stands_in h.procs.procs h.fds.rows who p there in ap (λ (x : Process). x.fds) (sym q.same);
-      living = λ who fd did at. let q = owner_of h.procs.procs h.fds.rows owners who fd did at in record { value = _; is = found h.procs.procs h.fds.rows who q.value q.is };
+      fds = λ who p there. let q = stands_in h.procs.procs h.fds.processes who p there in ap (λ (x : Process). x.fds) (sym q.same);
+      living = λ who fd did at. let q = owner_of h.procs.procs h.fds.processes owners who fd did at in record { value = _; is = found h.procs.procs h.fds.processes who q.value q.is };
       held = λ did d there. holder s did (∥∥₁_map valid (λ v. (v.descriptions did d there).held));
     }

@@ -13,13 +13,13 @@ use Rattle.kern_model.specs.State.{State, Process, Description, DrawDescription,
 use Rattle.kern_model.proofs.KeyLaws.{pid_cmp_total, pid_cmp_exact}
 use Rattle.kern_model.proofs.MapLemmas.{get_or-found, get_or-same, same_key}
 use Rattle.fd_table.specs.Files.{OpenFiles, next_in, with_lowest, with_opened}
-use Rattle.fd_table.specs.Rows.{AllFds, Fds, row_of}
+use Rattle.fd_table.specs.Fds.{AllFds, Fds, fds_of}
 use Rattle.sys_lookup.specs.Shared.{holding, with_fds}
 use Rattle.sys_lookup.proofs.FdLemmas.{get-with_fds}
 
 module _ (procs : FinMap pid_cmp Process) (rows : AllFds) where
   -- rows that have the same descriptors show the same processes
-  pub with_fds-same : (others : AllFds) → ((who : Pid) → row_of others who ≡ row_of rows who) → with_fds procs others ≡ with_fds procs rows
+  pub with_fds-same : (others : AllFds) → ((who : Pid) → fds_of others who ≡ fds_of rows who) → with_fds procs others ≡ with_fds procs rows
   unfolding with_fds
   with_fds-same others same = λ i. select {X = Process} {Y = Process} {R = pid_cmp} (λ who p. Some (record p { fds = same who i })) procs
 
@@ -41,11 +41,11 @@ module _ (procs : FinMap pid_cmp Process) (rows : AllFds) where
 
 -- a state with other open files
 abbrev pub with_files : State → FinMap pid_cmp Process → OpenFiles → State
-with_files s procs t = record s { procs = with_fds procs t.rows; descriptions = t.descriptions; description_numbers = t.numbers }
+with_files s procs t = record s { procs = with_fds procs t.processes; descriptions = t.descriptions; description_numbers = t.numbers }
 
 -- tables that differ at most in rows without descriptors
 pub record ShowTheSame (t u : OpenFiles) : Type 0 where
-  pub rows : (who : Pid) → row_of u.rows who ≡ row_of t.rows who
+  pub processes : (who : Pid) → fds_of u.processes who ≡ fds_of t.processes who
   pub descriptions : u.descriptions ≡ t.descriptions
   pub numbers : u.numbers ≡ t.numbers
 
@@ -55,12 +55,12 @@ pub opened_shows : (s : State) (procs : FinMap pid_cmp Process) (t u : OpenFiles
     ≡ changed_by (with_files s procs t)
     (DrawDescription l (drawn t.numbers l + 1)
     ∷ SetDescription (next_in t l) d
-    ∷ SetProcess who (with_descriptor (holding t.rows who q) (next_in t l)) ∷ [])
+    ∷ SetProcess who (with_descriptor (holding t.processes who q) (next_in t l)) ∷ [])
 opened_shows s procs t u same who q there l d =
     ap (λ (m : FinMap pid_cmp Process). record s { procs = m; descriptions = map.insert u.descriptions (next_in u l) d; description_numbers = map.insert u.numbers l (drawn u.numbers l + 1) })
-    (with_fds-row procs u.rows who q (with_lowest (row_of u.rows who) (next_in u l)) there)
+    (with_fds-row procs u.processes who q (with_lowest (fds_of u.processes who) (next_in u l)) there)
     ∙ (λ i. record s {
-      procs = map.insert (with_fds-same procs t.rows u.rows same.rows i) who (record q { fds = with_lowest (same.rows who i) (record { label = l; n = drawn (same.numbers i) l + 1 }) });
+      procs = map.insert (with_fds-same procs t.processes u.processes same.processes i) who (record q { fds = with_lowest (same.processes who i) (record { label = l; n = drawn (same.numbers i) l + 1 }) });
       descriptions = map.insert (same.descriptions i) (record { label = l; n = drawn (same.numbers i) l + 1 }) d;
       description_numbers = map.insert (same.numbers i) l (drawn (same.numbers i) l + 1);
     })

@@ -10,7 +10,7 @@ use Rattle.kern_model.specs.State.{Process}
 use Rattle.kern_model.proofs.KeyLaws.{pid_cmp_total, pid_cmp_exact}
 use Rattle.kern_model.proofs.MapLemmas.{never_some, some_same}
 use Rattle.kern_model.proofs.Selections.{get-select_each, keys-select_each, select-insert_each}
-use Rattle.fd_table.specs.Rows.{AllFds}
+use Rattle.fd_table.specs.Fds.{AllFds}
 use Rattle.sys_lookup.specs.Shared.{holding, with_fds}
 
 module _ (procs : FinMap pid_cmp Process) (rows : AllFds) where

@@ -9,7 +9,7 @@ use Rattle.kern_model.specs.State.{Process}
 use Rattle.kern_model.proofs.KeyLaws.{pid_cmp_total, pid_cmp_exact}
 use Rattle.kern_model.proofs.MapLemmas.{some_same, insert-same}
 use Rattle.proc_creds.specs.Credentials.{Credentials}
-use Rattle.fd_table.specs.Rows.{AllFds}
+use Rattle.fd_table.specs.Fds.{AllFds}
 use Rattle.proc_table.specs.Procs.{creds_of, set_creds, under_creds, with_creds}
 use Rattle.sys_lookup.specs.Shared.{with_fds}
 use Rattle.sys_lookup.proofs.FdLemmas.{StandsIn, in_table, stands_in, with_fds-process}
@@ -24,10 +24,6 @@ module _ (procs : FinMap pid_cmp Process) (rows : AllFds) (who : Pid) (p : Proce
       ap (λ w. with_fds (set_creds procs who c w) rows) stands.is
       ∙ with_fds-process procs rows who (with_creds stands.process c)
       ∙ ap (λ x. map.insert (with_fds procs rows) who (with_creds x c)) stands.same
-
-  -- where they are as they were, so is all
-  pub creds_same : with_fds (under_creds procs who (creds_of p)) rows ≡ with_fds procs rows
-  creds_same = creds_left (creds_of p) ∙ insert-same pid_cmp_total pid_cmp_exact (with_fds procs rows) who p there
 
   -- the credentials that are lent are those of the process
   pub creds_lent : (c : Credentials) → Some c ≡ option_map creds_of (map.get procs who) → creds_of p ≡ c

@@ -25,7 +25,7 @@ use Rattle.kern_model.proofs.MapLemmas.{count_entries-none, get-insert_kept, get
 use Rattle.kern_model.proofs.StateLemmas.{next_absent}
 use Rattle.fs_dirs.specs.Tree.{MayBeAdded}
 use Rattle.chk_rules.specs.CheckLog.{CheckLog, check_log}
-use Rattle.chk_rules.specs.Ends.{GoesOn}
+use Rattle.chk_rules.specs.RowSteps.{GoesOn}
 use Rattle.sys_lookup.proofs.CheckLemmas.{not_refused}
 
 -- a number is left where a call is not refused for want of one

@@ -14,7 +14,7 @@ use Rattle.kern_model.proofs.KeyLaws.{pid_cmp_total, pid_cmp_exact}
 use Rattle.kern_model.proofs.MapLemmas.{get-insert_same, get_or-absent, never_some, same_key}
 use Rattle.proc_creds.specs.Credentials.{Credentials}
 use Rattle.proc_table.specs.Procs.{set_creds, under_creds, with_creds}
-use Rattle.fd_table.specs.Rows.{AllFds, Fds, row_of}
+use Rattle.fd_table.specs.Fds.{AllFds, Fds, fds_of}
 use Rattle.sys_lookup.specs.Owners.{HasOwners}
 
 -- ---- what is known of owners can be used
@@ -29,20 +29,20 @@ pub owners_known : (procs : FinMap pid_cmp Process) (rows : AllFds) → ∥ HasO
 owners_known procs rows known q has = there_known procs q (∥∥₁_map known (λ owners. owners q has))
 
 -- a process with a descriptor has a row
-has_row : (rows : AllFds) (q : Pid) (fd : ℕ) (did : Did) → map.get (row_of rows q) fd ≡ Some did → IsThere rows q
+has_row : (rows : AllFds) (q : Pid) (fd : ℕ) (did : Did) → map.get (fds_of rows q) fd ≡ Some did → IsThere rows q
 has_row rows q fd did at = elim (map.get rows q) as (λ w. map.get rows q ≡ w → IsThere rows q) [
-  | None ↦ λ e. absurd (never_some (map.get (row_of rows q) fd) did (ap (λ (f : Fds). map.get f fd) (get_or-absent rows q map.empty e) ∙ map.get-empty {X = Did} nat_cmp fd) at)
+  | None ↦ λ e. absurd (never_some (map.get (fds_of rows q) fd) did (ap (λ (f : Fds). map.get f fd) (get_or-absent rows q map.empty e) ∙ map.get-empty {X = Did} nat_cmp fd) at)
   | Some f ↦ λ e. record { value = f; is = e }
 ] refl
 
 -- so it is living
 pub owner_of : (procs : FinMap pid_cmp Process) (rows : AllFds) → ∥ HasOwners procs rows ∥₁
-    → (q : Pid) (fd : ℕ) (did : Did) → map.get (row_of rows q) fd ≡ Some did → IsThere procs q
+    → (q : Pid) (fd : ℕ) (did : Did) → map.get (fds_of rows q) fd ≡ Some did → IsThere procs q
 owner_of procs rows known q fd did at = owners_known procs rows known q (has_row rows q fd did at)
 
 -- and what is not living has no descriptor
-pub no_owner : (procs : FinMap pid_cmp Process) (rows : AllFds) → ∥ HasOwners procs rows ∥₁ → (q : Pid) → map.get procs q ≡ None → row_of rows q ≡ map.empty
-no_owner procs rows known q absent = elim (map.get rows q) as (λ w. map.get rows q ≡ w → row_of rows q ≡ map.empty) [
+pub no_owner : (procs : FinMap pid_cmp Process) (rows : AllFds) → ∥ HasOwners procs rows ∥₁ → (q : Pid) → map.get procs q ≡ None → fds_of rows q ≡ map.empty
+no_owner procs rows known q absent = elim (map.get rows q) as (λ w. map.get rows q ≡ w → fds_of rows q ≡ map.empty) [
   | None ↦ λ e. get_or-absent rows q map.empty e
   | Some f ↦ λ e. let owner = owners_known procs rows known q (record { value = f; is = e }) in absurd (never_some (map.get procs q) owner.value absent owner.is)
 ] refl

@@ -12,7 +12,7 @@ use Rattle.kern_model.specs.Row.{Row, Need, Refuse, Fail, Commit}
 use Rattle.kern_model.specs.State.{State, Change, changed_by}
 use Rattle.kern_model.proofs.RowLemmas.{judge-fail, judge-give}
 use Rattle.chk_rules.specs.CheckLog.{CheckLog, judge_from}
-use Rattle.chk_rules.specs.Ends.{EndsBy, GoesOn}
+use Rattle.chk_rules.specs.RowSteps.{EndsBy, GoesOn}
 use Rattle.chk_rules.specs.declared.stop.Stop.{Stop}
 use Rattle.chk_rules.specs.declared.stop.Stop.TheVariants as stop
 use Rattle.chk_rules.proofs.Steps.{ends_over}

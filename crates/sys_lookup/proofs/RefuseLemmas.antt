@@ -7,7 +7,7 @@ use Rattle.kern_model.specs.Descriptors.{Opened}
 use Rattle.kern_model.specs.FileRows.{or_not_open}
 use Rattle.kern_model.specs.Row.{Row, Refuse, judge}
 use Rattle.chk_rules.specs.CheckLog.{CheckLog}
-use Rattle.chk_rules.specs.Ends.{EndsBy, GoesOn}
+use Rattle.chk_rules.specs.RowSteps.{EndsBy, GoesOn}
 use Rattle.chk_rules.specs.declared.stop.Stop.TheVariants as stop
 use Rattle.chk_rules.proofs.Steps.{gives}
 

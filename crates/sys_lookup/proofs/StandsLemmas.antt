@@ -8,7 +8,7 @@ use Rattle.kern_model.specs.Descriptors.{opened}
 use Rattle.kern_model.specs.FileRows.{has_descriptions, has_free_descriptors}
 use Rattle.kern_model.specs.State.{State, Process, Description, drawn}
 use Rattle.fd_table.specs.Files.{open_refusal, opened_at}
-use Rattle.fd_table.specs.Rows.{fd_count, row_of}
+use Rattle.fd_table.specs.Fds.{fd_count, fds_of}
 use Rattle.fd_table.specs.declared.table.FdError.{FdError}
 use Rattle.fd_table.specs.declared.table.FdError.TheVariants as error
 use Rattle.sys_lookup.specs.Callers.{CallerView, IsLiving}
@@ -22,9 +22,9 @@ refusal free left = cond free (cond left None (Some error.Full)) (Some error.Too
 
 module _ (h : Inside) (k : CallerView) (is : state_of h ≡ k.state) (living : IsLiving k) where
   -- the descriptors of the caller are its row in the table
-  pub fds_are : row_of h.fds.rows k.who ≡ k.process.fds
+  pub fds_are : fds_of h.fds.processes k.who ≡ k.process.fds
   fds_are =
-      let q = stands_in h.procs.procs h.fds.rows k.who k.process (ap (λ (s : State). map.get s.procs k.who) is ∙ living) in
+      let q = stands_in h.procs.procs h.fds.processes k.who k.process (ap (λ (s : State). map.get s.procs k.who) is ∙ living) in
       ap (λ (p : Process). p.fds) q.same
 
   -- so a descriptor refers to what it refers to in the table

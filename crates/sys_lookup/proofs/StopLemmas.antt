@@ -15,7 +15,7 @@ use Rattle.kern_model.specs.Rules.{mac_read, dac_search}
 use Rattle.kern_model.specs.State.{State, Process, look, object_at}
 use Rattle.kern_model.specs.Walk.{Found, Start, Entry, enter, or_missing, walk_from}
 use Rattle.chk_rules.specs.CheckLog.{CheckLog}
-use Rattle.chk_rules.specs.Ends.{EndsBy, GoesOn}
+use Rattle.chk_rules.specs.RowSteps.{EndsBy, GoesOn}
 use Rattle.chk_rules.specs.declared.stop.Stop.{Stop}
 use Rattle.chk_rules.specs.declared.stop.Stop.TheVariants as stop
 use Rattle.sys_lookup.specs.WalkStops.{IsWalkStop}

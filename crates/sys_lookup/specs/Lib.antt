@@ -1,5 +1,6 @@
 pub mod Callers
 pub mod Calling
+pub mod Directories
 pub mod Memory
 pub mod Owners
 pub mod PlaysRow

@@ -4,7 +4,7 @@ use Rattle.kern_model.specs.declared.numbers.Pid.{Pid}
 use Rattle.kern_model.specs.Keys.{pid_cmp}
 use Rattle.kern_model.specs.State.{Process}
 use Rattle.kern_model.specs.Valid.{IsThere}
-use Rattle.fd_table.specs.Rows.{AllFds}
+use Rattle.fd_table.specs.Fds.{AllFds}
 
 -- each process that has a row of descriptors is living
 abbrev pub HasOwners : FinMap pid_cmp Process → AllFds → Type 0

@@ -1,10 +1,11 @@
 -- What it means that a body plays a row.
 use Rattle.std.specs.Prelude.{◌≡◌, List, None, Result, Ok, Err}
 use Rattle.std.specs.Result.{IfOk, IfErr}
-use Rattle.kern_model.specs.State.{State, Change, changed_by}
+use Rattle.kern_model.specs.declared.numbers.Pid.{Pid}
+use Rattle.kern_model.specs.State.{State, Process, Change, changed_by, process_at}
 use Rattle.kern_model.specs.Row.{Row, Done, check_outcome}
 use Rattle.chk_rules.specs.CheckLog.{CheckLog, judge_from}
-use Rattle.chk_rules.specs.Ends.{EndsBy}
+use Rattle.chk_rules.specs.RowSteps.{EndsBy}
 use Rattle.chk_rules.specs.declared.stop.Stop.{Stop}
 use Rattle.chk_rules.specs.declared.stop.Stop.TheVariants as stop
 use Rattle.sys_lookup.specs.declared.effect.Effect.{Effect}
@@ -26,6 +27,10 @@ pub record PlaysRow (s : State) (before : CheckLog) (r : Row) (result : Result E
   pub completes : IfOk result (λ effect. RowCompletes s before r effect t after)
   pub ends : IfErr result (λ how. EndsBy (judge_from before r) after how)
   pub keeps : IfErr result (λ how. Keeps how s t)
+
+-- the body of a call of a process plays the row of the call
+abbrev pub PlaysCall : State → Pid → CheckLog → (State → Pid → Process → Row) → Result Effect Stop → State → CheckLog → Type 0
+PlaysCall s who before row result t after = PlaysRow s before (row s who (process_at s who)) result t after
 
 -- a body leaves no record, neither of its own nor of a denial, and memory did not run out
 abbrev pub LeavesNothing : Result Effect Stop → Type 0

@@ -11,13 +11,13 @@ use Rattle.kern_model.specs.declared.numbers.Pid.{Pid}
 use Rattle.kern_model.specs.Keys.{pid_cmp}
 use Rattle.kern_model.specs.Maps.{select}
 use Rattle.kern_model.specs.State.{State, Process, object_at}
-use Rattle.fd_table.specs.Rows.{AllFds, row_of}
+use Rattle.fd_table.specs.Fds.{AllFds, fds_of}
 use Rattle.sys_lookup.specs.declared.shared.Shared.TheInside.{Inside}
 use Rattle.sys_lookup.specs.declared.shared.Metadata.{Metadata}
 
 -- a process with its descriptors
 abbrev pub holding : AllFds → Pid → Process → Process
-holding rows who p = record p { fds = row_of rows who }
+holding rows who p = record p { fds = fds_of rows who }
 
 -- the processes, each with its descriptors
 unfoldable pub with_fds : FinMap pid_cmp Process → AllFds → FinMap pid_cmp Process
@@ -28,7 +28,7 @@ abbrev pub state_of : Inside → State
 state_of h = record {
   objects = h.tree.nodes.table.objects;
   entries = h.tree.entries;
-  procs = with_fds h.procs.procs h.fds.rows;
+  procs = with_fds h.procs.procs h.fds.processes;
   descriptions = h.fds.descriptions;
   object_numbers = h.tree.nodes.table.numbers;
   process_numbers = h.procs.numbers;

@@ -7,7 +7,7 @@ ghost use Rattle.kern_model.specs.Rules.{created_order, dac_read, dac_search, da
 ghost use Rattle.kern_model.specs.declared.checks.CheckName.TheVariants as check;
 ghost use Rattle.lab_lattice.specs.Label.{dominates};
 ghost use Rattle.sys_lookup.specs.Callers.{IsLiving, caller_in};
-ghost use Rattle.sys_lookup.specs.StepOn.{StepOn};
+ghost use Rattle.sys_lookup.specs.StepOn.{IsCheckOn, StepOn};
 ghost use Rattle.sys_lookup.specs.Shared.{check_on};
 
 use crate::shared::{Metadata, Shared};
@@ -67,15 +67,46 @@ impl<'a> Caller<'a> {
 }
 
 impl Caller<'_> {
-    /// Checks that the caller's label dominates that of an object, which is what labels ask of a read.
+    /// The check that the caller's label dominates that of an object, which is what labels ask of a read.
+    pub fn mac_read_check(&self, object: &Metadata, place: Place) -> Check
+        ensures { IsCheckOn object.now (λ s id. mac_read s self.now.process id place) result }
+    {
+        let holds = mac_read_ok(&self.label(), &object.label);
+        check_of(CheckName::MacRead, holds, object, place)
+    }
+
+    /// The check that the labels of the caller and of an object are equal, which is what labels ask of a write.
+    pub fn mac_write_check(&self, object: &Metadata, place: Place) -> Check
+        ensures { IsCheckOn object.now (λ s id. mac_write s self.now.process id place) result }
+    {
+        let holds = mac_write_ok(&self.label(), &object.label);
+        check_of(CheckName::MacWrite, holds, object, place)
+    }
+
+    /// The check that the mode of an object lets the caller read it.
+    pub fn dac_read_check(&self, object: &Metadata, place: Place) -> Check
+        ensures { IsCheckOn object.now (λ s id. dac_read s self.now.process id place) result }
+    {
+        let holds = self.mode_lets(object, Want::Read);
+        check_of(CheckName::DacRead, holds, object, place)
+    }
+
+    /// The check that the mode of an object lets the caller write it.
+    pub fn dac_write_check(&self, object: &Metadata, place: Place) -> Check
+        ensures { IsCheckOn object.now (λ s id. dac_write s self.now.process id place) result }
+    {
+        let holds = self.mode_lets(object, Want::Write);
+        check_of(CheckName::DacWrite, holds, object, place)
+    }
+
+    /// Makes the check of [`mac_read_check`](Caller::mac_read_check).
     pub fn mac_read(&self, checks: &mut Checks, object: &Metadata, place: Place) -> Result<(), Stop>
         ensures { StepOn checks.old object.now (λ s id rest. Need (mac_read s self.now.process id place) (rest tt)) result checks.new }
     {
-        let holds = mac_read_ok(&self.label(), &object.label);
-        must(checks, &check_of(CheckName::MacRead, holds, object, place))
+        must(checks, &self.mac_read_check(object, place))
     }
 
-    /// Checks that the labels of the caller and of an object are equal, which is what labels ask of a write.
+    /// Makes the check of [`mac_write_check`](Caller::mac_write_check).
     pub fn mac_write(
         &self,
         checks: &mut Checks,
@@ -84,19 +115,17 @@ impl Caller<'_> {
     ) -> Result<(), Stop>
         ensures { StepOn checks.old object.now (λ s id rest. Need (mac_write s self.now.process id place) (rest tt)) result checks.new }
     {
-        let holds = mac_write_ok(&self.label(), &object.label);
-        must(checks, &check_of(CheckName::MacWrite, holds, object, place))
+        must(checks, &self.mac_write_check(object, place))
     }
 
-    /// Checks that the mode of an object lets the caller read it.
+    /// Makes the check of [`dac_read_check`](Caller::dac_read_check).
     pub fn dac_read(&self, checks: &mut Checks, object: &Metadata, place: Place) -> Result<(), Stop>
         ensures { StepOn checks.old object.now (λ s id rest. Need (dac_read s self.now.process id place) (rest tt)) result checks.new }
     {
-        let holds = self.mode_lets(object, Want::Read);
-        must(checks, &check_of(CheckName::DacRead, holds, object, place))
+        must(checks, &self.dac_read_check(object, place))
     }
 
-    /// Checks that the mode of an object lets the caller write it.
+    /// Makes the check of [`dac_write_check`](Caller::dac_write_check).
     pub fn dac_write(
         &self,
         checks: &mut Checks,
@@ -105,8 +134,7 @@ impl Caller<'_> {
     ) -> Result<(), Stop>
         ensures { StepOn checks.old object.now (λ s id rest. Need (dac_write s self.now.process id place) (rest tt)) result checks.new }
     {
-        let holds = self.mode_lets(object, Want::Write);
-        must(checks, &check_of(CheckName::DacWrite, holds, object, place))
+        must(checks, &self.dac_write_check(object, place))
     }
 
     /// Checks that the caller may search a directory.

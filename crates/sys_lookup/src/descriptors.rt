@@ -5,7 +5,7 @@ ghost use Rattle.kern_model.specs.FileRows.{has_descriptions, has_free_descripto
 ghost use Rattle.kern_model.specs.declared.calls.Errno.TheVariants as errno;
 ghost use Rattle.chk_rules.specs.CheckLog.{CheckLog};
 ghost use Rattle.chk_rules.specs.declared.stop.Stop.TheVariants as stop;
-ghost use Rattle.chk_rules.specs.Ends.{GoesOn};
+ghost use Rattle.chk_rules.specs.RowSteps.{GoesOn};
 
 use crate::caller::Caller;
 use chk_rules::Stop;
@@ -14,7 +14,7 @@ use kern_model::{Errno, Fd};
 
 impl Caller<'_> {
     /// What a descriptor of the caller refers to, or a refusal where it is not open.
-    #[tactic(auto, unfolding(kern_model::specs::Row::judge, chk_rules::specs::Ends::EndsBy, kern_model::specs::Descriptors::opened))]
+    #[tactic(auto, unfolding(kern_model::specs::Row::judge, chk_rules::specs::RowSteps::EndsBy, kern_model::specs::Descriptors::opened))]
     pub fn opened(&self, fd: Fd) -> Result<Opened, Stop>
         ensures step { (log : CheckLog) → GoesOn log (on_descriptor self.now.state self.now.process fd) result log }
         ensures found { IfOk result (λ f. opened self.now.state self.now.process fd ≡ Some f) }
@@ -29,7 +29,7 @@ impl Caller<'_> {
 
     /// Refuses where fewer than `n` descriptors of the caller are free, or fewer than `n` numbers of descriptions are left at its
     /// label.
-    #[tactic(auto, unfolding(kern_model::specs::Row::judge, chk_rules::specs::Ends::EndsBy))]
+    #[tactic(auto, unfolding(kern_model::specs::Row::judge, chk_rules::specs::RowSteps::EndsBy))]
     pub fn may_open(&self, n: u32) -> Result<(), Stop>
         ensures step { (log : CheckLog) → GoesOn log (λ rest. may_describe self.now.state self.now.process n (rest tt)) result log }
         ensures free { OnOk result (has_free_descriptors self.now.process n ≡ true) }

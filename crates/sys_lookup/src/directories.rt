@@ -2,10 +2,8 @@
 ghost use Rattle.std.specs.Prelude.{◌≡◌, IfOk, OnOk, false};
 ghost use Rattle.kern_model.specs.Create.{enter_in, make_in, write_directory};
 ghost use Rattle.kern_model.specs.Entries.{is_removed};
-ghost use Rattle.kern_model.specs.Row.{Need};
-ghost use Rattle.kern_model.specs.Rules.{mac_read, mac_write};
-ghost use Rattle.kern_model.specs.TreeRows.{leave_from};
-ghost use Rattle.chk_rules.specs.Ends.{GoesOn};
+ghost use Rattle.chk_rules.specs.RowSteps.{GoesOn};
+ghost use Rattle.sys_lookup.specs.Directories.{leave_from_with, read_object_with, write_object_with};
 ghost use Rattle.sys_lookup.specs.Shared.{metadata_of};
 
 use crate::argument::PathArgument;
@@ -17,7 +15,7 @@ use kern_model::{Check, Errno, Oid, Path, Place};
 impl Caller<'_> {
     /// Reads an object, by label, and returns its metadata.
     pub fn read_object(&self, checks: &mut Checks, id: &Oid, place: Place) -> Result<Metadata, Stop>
-        ensures step { GoesOn checks.old (λ rest. Need (mac_read self.now.state self.now.process id.now place) (rest (metadata_of self.now.state id.now))) result checks.new }
+        ensures step { GoesOn checks.old (read_object_with self.now id.now place) result checks.new }
         ensures object { IfOk result (λ object. object ≡ metadata_of self.now.state id.now) }
     {
         let object = self.metadata(id);
@@ -32,7 +30,7 @@ impl Caller<'_> {
         id: &Oid,
         place: Place,
     ) -> Result<Metadata, Stop>
-        ensures step { GoesOn checks.old (λ rest. Need (mac_write self.now.state self.now.process id.now place) (rest (metadata_of self.now.state id.now))) result checks.new }
+        ensures step { GoesOn checks.old (write_object_with self.now id.now place) result checks.new }
         ensures object { IfOk result (λ object. object ≡ metadata_of self.now.state id.now) }
     {
         let object = self.metadata(id);
@@ -87,7 +85,7 @@ impl Caller<'_> {
         dir: &Oid,
         id: &Oid,
     ) -> Result<Metadata, Stop>
-        ensures step { GoesOn checks.old (λ rest. leave_from self.now.state self.now.process path.now dir.now id.now (rest (metadata_of self.now.state id.now))) result checks.new }
+        ensures step { GoesOn checks.old (leave_from_with self.now path.now dir.now id.now) result checks.new }
         ensures object { IfOk result (λ object. object ≡ metadata_of self.now.state id.now) }
     {
         let place = PathArgument::First.dir_place(path);

@@ -4,7 +4,7 @@ ghost use Rattle.kern_model.specs.State.{State};
 ghost use Rattle.kern_model.specs.Walk.{or_missing, to_entry, to_entry_of_object, to_new_name, to_object};
 ghost use Rattle.kern_model.specs.declared.numbers.Oid.{Oid as Number};
 ghost use Rattle.chk_rules.specs.CheckLog.{CheckLog};
-ghost use Rattle.chk_rules.specs.Ends.{GoesOn};
+ghost use Rattle.chk_rules.specs.RowSteps.{GoesOn};
 ghost use Rattle.sys_lookup.specs.Walks.{IsEntry, IsFound, IsLedTo, found_of};
 
 use crate::last_name::LastName;
@@ -22,7 +22,7 @@ pub enum Found<'a> {
 
 impl<'a> Found<'a> {
     /// The object at the end of the path, or a refusal where there is none.
-    #[tactic(auto, unfolding(kern_model::specs::Row::judge, chk_rules::specs::Ends::EndsBy))]
+    #[tactic(auto, unfolding(kern_model::specs::Row::judge, chk_rules::specs::RowSteps::EndsBy))]
     pub fn to_object(&self) -> Result<Oid, Stop>
         ensures step { (log : CheckLog) → GoesOn log (to_object (found_of self.now)) result log }
         ensures led { (s : State) (start : Number) → IsFound s start self.now → IfOk result (IsLedTo s start) }
@@ -34,7 +34,7 @@ impl<'a> Found<'a> {
     }
 
     /// The directory and the name of an object that is to be made, or a refusal where the name is taken.
-    #[tactic(auto, unfolding(kern_model::specs::Row::judge, chk_rules::specs::Ends::EndsBy))]
+    #[tactic(auto, unfolding(kern_model::specs::Row::judge, chk_rules::specs::RowSteps::EndsBy))]
     pub fn into_new_name(self) -> Result<(Oid, LastName<'a>), Stop>
         ensures entry { (s : State) (start : Number) → IsFound s start self.entry → IfOk result (λ e. IsEntry s e.0 e.1 None) }
         ensures step { (log : CheckLog) → GoesOn log (λ rest. to_new_name (found_of self.entry) (λ dir name. rest (dir, name))) result log }
@@ -46,7 +46,7 @@ impl<'a> Found<'a> {
     }
 
     /// The directory, the name and its object, if it has one, or a refusal where the path has no names.
-    #[tactic(auto, unfolding(kern_model::specs::Row::judge, chk_rules::specs::Ends::EndsBy))]
+    #[tactic(auto, unfolding(kern_model::specs::Row::judge, chk_rules::specs::RowSteps::EndsBy))]
     pub fn into_entry(self) -> Result<(Oid, LastName<'a>, Option<Oid>), Stop>
         ensures entry { (s : State) (start : Number) → IsFound s start self.entry → IfOk result (λ e. IsEntry s e.0 e.1 e.2) }
         ensures step { (log : CheckLog) → GoesOn log (λ rest. to_entry (found_of self.entry) (λ dir name object. rest (dir, name, object))) result log }
@@ -58,7 +58,7 @@ impl<'a> Found<'a> {
     }
 
     /// The directory, the name and its object, or a refusal where there is none.
-    #[tactic(auto, unfolding(kern_model::specs::Row::judge, chk_rules::specs::Ends::EndsBy))]
+    #[tactic(auto, unfolding(kern_model::specs::Row::judge, chk_rules::specs::RowSteps::EndsBy))]
     pub fn into_entry_of_object(self) -> Result<(Oid, LastName<'a>, Oid), Stop>
         ensures entry { (s : State) (start : Number) → IsFound s start self.entry → IfOk result (λ e. IsEntry s e.0 e.1 (Some e.2)) }
         ensures step { (log : CheckLog) → GoesOn log (λ rest. to_entry_of_object (found_of self.entry) (λ dir name id. rest (dir, name, id))) result log }
@@ -70,7 +70,7 @@ impl<'a> Found<'a> {
 }
 
 /// The object, or a refusal where there is none.
-#[tactic(auto, unfolding(kern_model::specs::Row::judge, chk_rules::specs::Ends::EndsBy))]
+#[tactic(auto, unfolding(kern_model::specs::Row::judge, chk_rules::specs::RowSteps::EndsBy))]
 pub fn present(object: Option<Oid>) -> Result<Oid, Stop>
     ensures step { (log : CheckLog) → GoesOn log (or_missing object) result log }
     ensures some { IfOk result (λ id. object ≡ Some id) }

@@ -23,6 +23,7 @@ mod walk_stop;
 mod walking;
 
 pub use argument::PathArgument;
+pub use asking::must_if;
 pub use caller::Caller;
 pub use effect::Effect;
 pub use found::Found;

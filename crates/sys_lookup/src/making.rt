@@ -10,8 +10,8 @@ ghost use Rattle.kern_model.specs.TreeRows.{make_row, make_spot};
 ghost use Rattle.kern_model.specs.Valid.{IsDir, IsValid};
 ghost use Rattle.kern_model.specs.declared.objects.Kind.TheVariants as kind;
 ghost use Rattle.chk_rules.specs.CheckLog.{CheckLog};
-ghost use Rattle.chk_rules.specs.Ends.{GoesOn};
-ghost use Rattle.sys_lookup.specs.PlaysRow.{Keeps, PlaysRow};
+ghost use Rattle.chk_rules.specs.RowSteps.{GoesOn};
+ghost use Rattle.sys_lookup.specs.PlaysRow.{Keeps, PlaysCall};
 ghost use Rattle.sys_lookup.specs.Walks.{IsEntry};
 
 use crate::argument::PathArgument;
@@ -47,7 +47,7 @@ pub fn make(
     requires valid { ∥ IsValid shared.old ∥₁ }
     requires living { IsSome (map.get shared.old.procs who.now) }
     requires no_pipe { kind_of object.body ≡ kind.Pipe → ⊥ }
-    ensures played { PlaysRow shared.old checks.old (make_row shared.old who.now (process_at shared.old who.now) path.now object.mode object.body) result shared.new checks.new }
+    ensures played { PlaysCall shared.old who.now checks.old (λ s who p. make_row s who p path.now object.mode object.body) result shared.new checks.new }
     ensures names { are_names path.now ≡ true }
 {
     let _names = path.components();
@@ -60,7 +60,7 @@ pub fn make(
 }
 
 /// Makes an object under the next number of a label, has a new name lead to it, and returns the number.
-#[tactic(auto, unfolding(chk_rules::specs::Ends::EndsBy, crate::specs::PlaysRow::Keeps))]
+#[tactic(auto, unfolding(chk_rules::specs::RowSteps::EndsBy, crate::specs::PlaysRow::Keeps))]
 pub fn create(
     shared: &mut Shared,
     spot: &Spot<'_>,

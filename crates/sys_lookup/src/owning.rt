@@ -5,7 +5,7 @@ ghost use Rattle.kern_model.specs.Kinds.{has_set_id as mode_has_set_id, is_file,
 ghost use Rattle.kern_model.specs.Row.{Need};
 ghost use Rattle.kern_model.specs.Rules.{cap_within, chown_rule, is_owner, owner, setfcap};
 ghost use Rattle.kern_model.specs.State.{State};
-ghost use Rattle.chk_rules.specs.Ends.{GoesOn};
+ghost use Rattle.chk_rules.specs.RowSteps.{GoesOn};
 ghost use Rattle.sys_lookup.specs.StepOn.{StepOn};
 ghost use Rattle.sys_lookup.specs.Shared.{metadata_of};
 

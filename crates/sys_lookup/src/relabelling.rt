@@ -2,11 +2,10 @@
 ghost use Rattle.std.specs.Prelude.{◌≡◌, ◌&&◌, Some, false, not};
 ghost use Rattle.kern_model.specs.declared.numbers.Oid.{Oid};
 ghost use Rattle.kern_model.specs.Entries.{has_entries};
-ghost use Rattle.kern_model.specs.Row.{Need};
 ghost use Rattle.kern_model.specs.Rules.{is_above_holders, mac_change_of, relabelled_order};
-ghost use Rattle.kern_model.specs.State.{State, object_at, root};
+ghost use Rattle.kern_model.specs.State.{object_at, root};
 ghost use Rattle.kern_model.specs.Keys.{same_oid};
-ghost use Rattle.sys_lookup.specs.StepOn.{StepIn, StepOn};
+ghost use Rattle.sys_lookup.specs.StepOn.{IsCheckOn, StepIn, StepOn, one_check};
 ghost use Rattle.sys_lookup.specs.Shared.{check_on, metadata_of};
 
 use crate::caller::{Caller, check_of};
@@ -28,7 +27,7 @@ fn change_to(name: CheckName, label: &Label, object: &Metadata, place: Place) ->
 
 // The check that an object gets this label: one for the way up, and one for all others.
 fn change_of(label: &Label, object: &Metadata, place: Place) -> Check
-    ensures { (s : State) (id : Oid) → object.now ≡ metadata_of s id → result ≡ mac_change_of label.now id (object_at s id) place }
+    ensures { IsCheckOn object.now (λ s id. mac_change_of label.now id (object_at s id) place) result }
 {
     if label.dominates(&object.label) {
         change_to(CheckName::MacUpgrade, label, object, place)
@@ -47,7 +46,7 @@ impl Caller<'_> {
         label: &Label,
         place: Place,
     ) -> Result<(), Stop>
-        ensures { StepOn checks.old object.now (λ s id rest. Need (mac_change_of label.now id (object_at s id) place) (rest tt)) result checks.new }
+        ensures { StepOn checks.old object.now (λ s id. one_check (mac_change_of label.now id (object_at s id) place)) result checks.new }
     {
         must(checks, &change_of(label, object, place))
     }
@@ -61,7 +60,7 @@ impl Caller<'_> {
         label: &Label,
         place: Place,
     ) -> Result<(), Stop>
-        ensures { StepIn self.now.state checks.old object.now (λ id rest. Need (relabelled_order self.now.state id label.now place) (rest tt)) result checks.new }
+        ensures { StepIn self.now.state checks.old object.now (λ id. one_check (relabelled_order self.now.state id label.now place)) result checks.new }
     {
         let holds = self.may_bear(object, label);
         must(

@@ -38,7 +38,7 @@ impl Caller<'_> {
         if self.fsetid(checks, file, is_plain(&file.attr), place)? {
             Ok(file.attr)
         } else {
-            Ok(cleared(&file.attr))
+            Ok(plain_attr(&file.attr))
         }
     }
 }
@@ -59,7 +59,7 @@ fn has_set_id(mode: Mode) -> bool
 }
 
 // The attributes without set-id bits and capabilities.
-fn cleared(attr: &Attr) -> Attr
+fn plain_attr(attr: &Attr) -> Attr
     ensures { result ≡ cleared attr.now }
 {
     Attr {

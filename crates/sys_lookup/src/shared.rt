@@ -33,7 +33,7 @@ impl Model for Shared {
 
     ghost view = { state_of };
 
-    ghost invariant = { λ h. ∥ HasOwners h.procs.procs h.fds.rows ∥₁ };
+    ghost invariant = { λ h. ∥ HasOwners h.procs.procs h.fds.processes ∥₁ };
 }
 
 // Written out, so that a drop is one call.

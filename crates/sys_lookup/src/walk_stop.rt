@@ -2,10 +2,10 @@
 ghost use Rattle.std.specs.Prelude.{◌≡◌, IfOk, IsSome};
 ghost use Rattle.std.specs.FinMap as map;
 ghost use Rattle.kern_model.specs.State.{process_at};
-ghost use Rattle.kern_model.specs.Walk.{start_of, walk};
-ghost use Rattle.chk_rules.specs.Ends.{GoesOn};
-ghost use Rattle.sys_lookup.specs.Walks.{IsFound, found_by, place_in};
-ghost use Rattle.sys_lookup.specs.WalkStops.{IsWalkStop, argument_of, stop_of, stopped_by};
+ghost use Rattle.kern_model.specs.Walk.{start_of};
+ghost use Rattle.chk_rules.specs.RowSteps.{GoesOn};
+ghost use Rattle.sys_lookup.specs.Walks.{IsFound, found_by};
+ghost use Rattle.sys_lookup.specs.WalkStops.{IsWalkStop, argument_of, stop_of, stopped_by, walk_argument};
 
 use crate::argument::PathArgument;
 use crate::caller::Caller;
@@ -76,7 +76,7 @@ pub fn walk<'a>(
     second: bool,
 ) -> Result<Found<'a>, WalkStop>
     requires living { IsSome (map.get shared.now.procs who.now) }
-    ensures step { GoesOn checks.old (walk shared.now (process_at shared.now who.now) (place_in (argument_of second)) path.now) (found_by (stopped_by result)) checks.new }
+    ensures step { GoesOn checks.old (walk_argument shared.now who.now second path.now) (found_by (stopped_by result)) checks.new }
     ensures found { IfOk result (IsFound shared.now (start_of (process_at shared.now who.now) path.now)) }
 {
     let caller = Caller::new(shared, who);

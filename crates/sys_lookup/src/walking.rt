@@ -1,10 +1,10 @@
 // The walk of a path.
 ghost use Rattle.std.specs.Prelude.{◌≡◌, ◌≤◌, ◌+◌, ◌∷◌, length, IfOk, OnOk};
-ghost use Rattle.kern_model.specs.Walk.{enter, last_place, reach, start_of, walk, walk_from};
+ghost use Rattle.kern_model.specs.Walk.{enter, last_place, reach, start_of, walk};
 ghost use Rattle.kern_model.specs.Valid.{IsDir};
 ghost use Rattle.kern_model.specs.declared.numbers.Oid.{Oid as Number};
-ghost use Rattle.chk_rules.specs.Ends.{GoesOn};
-ghost use Rattle.sys_lookup.specs.Walks.{IsFound, IsLedTo, find_name, found_by, pass_name, place_in, reach_end};
+ghost use Rattle.chk_rules.specs.RowSteps.{GoesOn};
+ghost use Rattle.sys_lookup.specs.Walks.{IsFound, IsLedTo, find_name, found_by, pass_name, place_in, reach_end, walk_reached};
 
 use crate::argument::PathArgument;
 use crate::caller::Caller;
@@ -92,7 +92,7 @@ impl Caller<'_> {
         rest: &'a [Name],
     ) -> Result<Found<'a>, Stop>
         requires { at.names + length rest.now ≤ 31 }
-        ensures step { GoesOn checks.old (walk_from self.now.state self.now.process (place_in at.which) at.names at.dir (name.now ∷ rest.now)) (found_by result) checks.new }
+        ensures step { GoesOn checks.old (walk_reached self.now at (name.now ∷ rest.now)) (found_by result) checks.new }
         ensures found { (start : Number) → IfOk result (IsFound self.now.state start) }
     {
         let place = at.place();
@@ -108,7 +108,7 @@ impl Caller<'_> {
     }
 
     // Looks up the last name of a walk, which may be absent.
-    #[tactic(auto, unfolding(chk_rules::specs::Ends::EndsBy))]
+    #[tactic(auto, unfolding(chk_rules::specs::RowSteps::EndsBy))]
     fn find_name<'a>(
         &self,
         checks: &mut Checks,

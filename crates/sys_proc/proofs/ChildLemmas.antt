@@ -25,8 +25,8 @@ use Rattle.proc_table.specs.Procs.{ProcTable, has_living_child, next_in, reaped,
 use Rattle.chk_rules.specs.CheckLog.{CheckLog}
 use Rattle.chk_rules.specs.declared.stop.Stop.{Stop}
 use Rattle.chk_rules.specs.declared.stop.Stop.TheVariants as stop
-use Rattle.fd_table.specs.Files.{OpenFiles, with_row}
-use Rattle.fd_table.specs.Rows.{AllFds, Fds, row_of}
+use Rattle.fd_table.specs.Files.{OpenFiles, with_fds_of}
+use Rattle.fd_table.specs.Fds.{AllFds, Fds, fds_of}
 use Rattle.sys_lookup.specs.declared.effect.Effect.{Effect}
 use Rattle.sys_lookup.specs.declared.shared.Shared.TheInside.{Inside}
 use Rattle.sys_lookup.specs.Owners.{HasOwners}
@@ -49,42 +49,42 @@ with_fds-new procs rows who q fds =
     ∙ insert-insert pid_cmp_total pid_cmp_exact (with_fds procs rows) who (holding rows who q) (record q { fds = fds })
 
 -- no process has the next number of a label, and none has a row of descriptors under it
-pub new_row : (h : Inside) → ∥ HasOwners h.procs.procs h.fds.rows ∥₁ → ∥ IsValid (state_of h) ∥₁ → (l : Label) → map.get h.fds.rows (next_in h.procs l) ≡ None
+pub new_row : (h : Inside) → ∥ HasOwners h.procs.procs h.fds.processes ∥₁ → ∥ IsValid (state_of h) ∥₁ → (l : Label) → map.get h.fds.processes (next_in h.procs l) ≡ None
 new_row h owners valid l =
     let next = next_in h.procs l in
     let last = drawn h.procs.numbers l in
-    elim (map.get h.fds.rows next) as (λ w. map.get h.fds.rows next ≡ w → w ≡ None) [
+    elim (map.get h.fds.processes next) as (λ w. map.get h.fds.processes next ≡ w → w ≡ None) [
       | None ↦ λ _. refl
       | Some fds ↦ λ e.
-          let there : IsThere h.procs.procs next = owners_known h.procs.procs h.fds.rows owners next (record { value = fds; is = e }) in
-          let shown = found h.procs.procs h.fds.rows next there.value there.is in
-          absurd (∥∥₁_elim valid (λ a b. absurd a) (λ v. let below : last + 1 ≤ last = ((v.procs next (holding h.fds.rows next there.value) shown).drawn_already).1 in omega (arith, below)))
+          let there : IsThere h.procs.procs next = owners_known h.procs.procs h.fds.processes owners next (record { value = fds; is = e }) in
+          let shown = found h.procs.procs h.fds.processes next there.value there.is in
+          absurd (∥∥₁_elim valid (λ a b. absurd a) (λ v. let below : last + 1 ≤ last = ((v.procs next (holding h.fds.processes next there.value) shown).drawn_already).1 in omega (arith, below)))
     ] refl
 
 -- a child is made, and has descriptors on the same descriptions
 pub forks : (h : Inside) (log : CheckLog) (who : Pid) (q : Process) (child : Pid) (procs : ProcTable) (fds : OpenFiles) → nat_le MAX_PROCS (drawn h.procs.numbers q.label) ≡ false → child ≡ next_in h.procs q.label
-    → procs ≡ with_new h.procs (child_of who q) → fds ≡ with_row h.fds child (row_of h.fds.rows who)
-    → PlaysRow (state_of h) log (fork_row (state_of h) who (holding h.fds.rows who q)) (Ok (record { answer = answer.Process child; own = Some (rec.Fork who child) }))
-    (record (state_of h) { procs = with_fds procs.procs fds.rows; descriptions = fds.descriptions; process_numbers = procs.numbers; description_numbers = fds.numbers }) log
+    → procs ≡ with_new h.procs (child_of who q) → fds ≡ with_fds_of h.fds child (fds_of h.fds.processes who)
+    → PlaysRow (state_of h) log (fork_row (state_of h) who (holding h.fds.processes who q)) (Ok (record { answer = answer.Process child; own = Some (rec.Fork who child) }))
+    (record (state_of h) { procs = with_fds procs.procs fds.processes; descriptions = fds.descriptions; process_numbers = procs.numbers; description_numbers = fds.numbers }) log
 forks h log who q child procs fds left is made copied =
     let s = state_of h in
     let next = next_in h.procs q.label in
     let all : FinMap pid_cmp Process = map.insert h.procs.procs next (child_of who q) in
-    let t : State = record s { procs = with_fds procs.procs fds.rows; descriptions = fds.descriptions; process_numbers = procs.numbers; description_numbers = fds.numbers } in
+    let t : State = record s { procs = with_fds procs.procs fds.processes; descriptions = fds.descriptions; process_numbers = procs.numbers; description_numbers = fds.numbers } in
     let numbers = map.insert h.procs.numbers q.label (drawn h.procs.numbers q.label + 1) in
-    let changes : List Change = DrawProcess q.label (drawn h.procs.numbers q.label + 1) ∷ SetProcess next (child_of who (holding h.fds.rows who q)) ∷ [] in
+    let changes : List Change = DrawProcess q.label (drawn h.procs.numbers q.label + 1) ∷ SetProcess next (child_of who (holding h.fds.processes who q)) ∷ [] in
     refuse_plays (lets_on left)
-    (subst (λ (k : Pid). PlaysRow s log (give_child who (holding h.fds.rows who q) (drawn h.procs.numbers q.label)) (Ok (record { answer = answer.Process k; own = Some (rec.Fork who k) })) t log) (sym is)
+    (subst (λ (k : Pid). PlaysRow s log (give_child who (holding h.fds.processes who q) (drawn h.procs.numbers q.label)) (Ok (record { answer = answer.Process k; own = Some (rec.Fork who k) })) t log) (sym is)
     (commits s t log changes (answer.Process next) (Some (rec.Fork who next))
-    ((λ i. record s { procs = with_fds (made i).procs (copied i).rows; descriptions = (copied i).descriptions; process_numbers = (made i).numbers; description_numbers = (copied i).numbers })
-    ∙ (λ i. record s { procs = with_fds all (map.insert h.fds.rows (is i) (row_of h.fds.rows who)); process_numbers = numbers })
-    ∙ (λ i. record s { procs = with_fds-new h.procs.procs h.fds.rows next (child_of who q) (row_of h.fds.rows who) i; process_numbers = numbers }))))
+    ((λ i. record s { procs = with_fds (made i).procs (copied i).processes; descriptions = (copied i).descriptions; process_numbers = (made i).numbers; description_numbers = (copied i).numbers })
+    ∙ (λ i. record s { procs = with_fds all (map.insert h.fds.processes (is i) (fds_of h.fds.processes who)); process_numbers = numbers })
+    ∙ (λ i. record s { procs = with_fds-new h.procs.procs h.fds.processes next (child_of who q) (fds_of h.fds.processes who) i; process_numbers = numbers }))))
 
 -- too many processes were made at the label
 pub refuses_child : (h : Inside) (log : CheckLog) (who : Pid) (q : Process) (procs : ProcTable) → nat_le MAX_PROCS (drawn h.procs.numbers q.label) ≡ true → procs ≡ h.procs
-    → PlaysRow (state_of h) log (fork_row (state_of h) who (holding h.fds.rows who q)) (Err (stop.Refused errno.EAGAIN)) (record (state_of h) { procs = with_fds procs.procs h.fds.rows; process_numbers = procs.numbers }) log
+    → PlaysRow (state_of h) log (fork_row (state_of h) who (holding h.fds.processes who q)) (Err (stop.Refused errno.EAGAIN)) (record (state_of h) { procs = with_fds procs.procs h.fds.processes; process_numbers = procs.numbers }) log
 refuses_child h log who q procs full same =
-    refuse_stops_row (Err (stop.Refused errno.EAGAIN)) refl (λ i. record (state_of h) { procs = with_fds (same i).procs h.fds.rows; process_numbers = (same i).numbers }) (refuses full)
+    refuse_stops_row (Err (stop.Refused errno.EAGAIN)) refl (λ i. record (state_of h) { procs = with_fds (same i).procs h.fds.processes; process_numbers = (same i).numbers }) (refuses full)
 
 -- what holds of both tables that a call may leave holds of the one that it left
 pub left_either : {X E T : Type 0} (P : T → Type 0) (r : Result X E) (made old new : T) → OnOk r (new ≡ made) → OnErr r (new ≡ old) → P made → P old → P new
@@ -139,33 +139,33 @@ module _ (h : Inside) (log : CheckLog) (who : Pid) (q : Process) (procs : ProcTa
   before = state_of h
 
   abbrev after : State
-  after = record before { procs = with_fds procs.procs h.fds.rows; process_numbers = procs.numbers }
+  after = record before { procs = with_fds procs.procs h.fds.processes; process_numbers = procs.numbers }
 
   abbrev living : Bool
   living = has_living_child h.procs.procs who
 
   -- the call played its row, whose test is made in the table
-  waits : (r r' : Result Effect Stop) → r ≡ r' → PlaysRow before log (await_child living who (holding h.fds.rows who q) q.ended) r' after log → PlaysRow before log (wait_row before who (holding h.fds.rows who q)) r after log
+  waits : (r r' : Result Effect Stop) → r ≡ r' → PlaysRow before log (await_child living who (holding h.fds.processes who q) q.ended) r' after log → PlaysRow before log (wait_row before who (holding h.fds.processes who q)) r after log
   waits r r' is plays =
-      subst (λ x. PlaysRow before log (wait_row before who (holding h.fds.rows who q)) x after log) (sym is)
-      (subst (λ b. PlaysRow before log (await_child b who (holding h.fds.rows who q) q.ended) r' after log) (sym (child_shown h who)) plays)
+      subst (λ x. PlaysRow before log (wait_row before who (holding h.fds.processes who q)) x after log) (sym is)
+      (subst (λ b. PlaysRow before log (await_child b who (holding h.fds.processes who q) q.ended) r' after log) (sym (child_shown h who)) plays)
 
   -- where a child was taken
   pub waits_taking : (r : Result Effect Stop) (e : Pid × Ending) (effect : Effect) → r ≡ Ok effect → effect ≡ record { answer = answer.Ended e.0 e.1; own = None } → Ok e ≡ reaped q.ended living
-      → procs ≡ with_process h.procs who (record q { ended = drop 1 q.ended }) → PlaysRow before log (wait_row before who (holding h.fds.rows who q)) r after log
+      → procs ≡ with_process h.procs who (record q { ended = drop 1 q.ended }) → PlaysRow before log (wait_row before who (holding h.fds.processes who q)) r after log
   waits_taking r e effect is gives reaps taken =
       waits r (Ok effect) is
-      (takes before after log who (holding h.fds.rows who q) living q.ended e effect gives reaps
-      ((λ i. record before { procs = with_fds (taken i).procs h.fds.rows; process_numbers = (taken i).numbers })
-      ∙ (λ i. record before { procs = with_fds-process h.procs.procs h.fds.rows who (record q { ended = drop 1 q.ended }) i })))
+      (takes before after log who (holding h.fds.processes who q) living q.ended e effect gives reaps
+      ((λ i. record before { procs = with_fds (taken i).procs h.fds.processes; process_numbers = (taken i).numbers })
+      ∙ (λ i. record before { procs = with_fds-process h.procs.procs h.fds.processes who (record q { ended = drop 1 q.ended }) i })))
 
   same_after : procs ≡ h.procs → after ≡ before
-  same_after same = λ i. record before { procs = with_fds (same i).procs h.fds.rows; process_numbers = (same i).numbers }
+  same_after same = λ i. record before { procs = with_fds (same i).procs h.fds.processes; process_numbers = (same i).numbers }
 
   -- where none has ended yet
-  pub waits_for_none : (r : Result Effect Stop) → r ≡ Err (stop.Refused errno.EAGAIN) → Err reap.NoneEnded ≡ reaped q.ended living → procs ≡ h.procs → PlaysRow before log (wait_row before who (holding h.fds.rows who q)) r after log
-  waits_for_none r is reaps same = waits r _ is (takes_none before after log who (holding h.fds.rows who q) living q.ended reaps (same_after same))
+  pub waits_for_none : (r : Result Effect Stop) → r ≡ Err (stop.Refused errno.EAGAIN) → Err reap.NoneEnded ≡ reaped q.ended living → procs ≡ h.procs → PlaysRow before log (wait_row before who (holding h.fds.processes who q)) r after log
+  waits_for_none r is reaps same = waits r _ is (takes_none before after log who (holding h.fds.processes who q) living q.ended reaps (same_after same))
 
   -- where there is none
-  pub waits_without : (r : Result Effect Stop) → r ≡ Err (stop.Refused errno.ECHILD) → Err reap.NoChild ≡ reaped q.ended living → procs ≡ h.procs → PlaysRow before log (wait_row before who (holding h.fds.rows who q)) r after log
-  waits_without r is reaps same = waits r _ is (has_none before after log who (holding h.fds.rows who q) living q.ended reaps (same_after same))
+  pub waits_without : (r : Result Effect Stop) → r ≡ Err (stop.Refused errno.ECHILD) → Err reap.NoChild ≡ reaped q.ended living → procs ≡ h.procs → PlaysRow before log (wait_row before who (holding h.fds.processes who q)) r after log
+  waits_without r is reaps same = waits r _ is (has_none before after log who (holding h.fds.processes who q) living q.ended reaps (same_after same))

@@ -11,7 +11,7 @@ use Rattle.sys_lookup.specs.declared.effect.Effect.{Effect}
 use Rattle.sys_lookup.specs.PlaysRow.{PlaysRow}
 use Rattle.sys_proc.specs.declared.id_kind.IdKind.{IdKind}
 use Rattle.sys_proc.specs.declared.id_kind.IdKind.TheVariants as kind
-use Rattle.sys_proc.specs.IdKind.{asks_id, effective_name, set_id_row, with_id}
+use Rattle.sys_proc.specs.IdKind.{asks_id, effective_check_name, set_id_row, with_id}
 
 -- the caller gets an id of a kind
 abbrev pub set_id : IdKind → Pid → Process → ℕ → Bool → Row
@@ -23,6 +23,6 @@ plays_set_id kind.User who p id plays = plays
 plays_set_id kind.Group who p id plays = plays
 
 -- no capability lets a call set an effective id that it may not have
-pub no_capability : (k : IdKind) → cap_of (effective_name k) ≡ None
+pub no_capability : (k : IdKind) → cap_of (effective_check_name k) ≡ None
 no_capability kind.User = refl
 no_capability kind.Group = refl

@@ -9,7 +9,7 @@ use Rattle.kern_model.specs.State.{State, Process, process_at, root}
 use Rattle.kern_model.proofs.MapLemmas.{some_same}
 use Rattle.kern_model.proofs.StateLemmas.{process_there}
 use Rattle.chk_rules.specs.CheckLog.{CheckLog}
-use Rattle.chk_rules.specs.Ends.{GoesOn}
+use Rattle.chk_rules.specs.RowSteps.{GoesOn}
 use Rattle.chk_rules.specs.declared.stop.Stop.{Stop}
 use Rattle.proc_creds.specs.Credentials.{Credentials}
 use Rattle.proc_table.specs.Procs.{creds_of, starting}

@@ -21,15 +21,15 @@ module _ (h : Inside) (s : State) (is : state_of h ≡ s) (who : Pid) (living : 
   in_procs = elim (map.get h.procs.procs who) as (λ w. map.get h.procs.procs who ≡ w → IsThere h.procs.procs who) [
     | None ↦ λ none.
         let there = subst (λ (t : State). IsSome (map.get t.procs who)) (sym is) living in
-        let no : false ≡ true = subst IsSome (not_found h.procs.procs h.fds.rows who none) there in absurd cc
+        let no : false ≡ true = subst IsSome (not_found h.procs.procs h.fds.processes who none) there in absurd cc
     | Some q ↦ λ e. record { value = q; is = e }
   ] refl
 
   -- its row is that of the process in the table, with its descriptors
   pub stands_plays : (row : State → Process → Row) → {log : CheckLog} {r : Result Effect Stop} {t : State}
-      → ((q : Process) → map.get h.procs.procs who ≡ Some q → PlaysRow (state_of h) log (row (state_of h) (holding h.fds.rows who q)) r t log) → PlaysRow s log (row s (process_at s who)) r t log
+      → ((q : Process) → map.get h.procs.procs who ≡ Some q → PlaysRow (state_of h) log (row (state_of h) (holding h.fds.processes who q)) r t log) → PlaysRow s log (row s (process_at s who)) r t log
   stands_plays row {log} {r} {t} plays =
       let q = in_procs in
-      let same = process_is (state_of h) who (holding h.fds.rows who q.value) (found h.procs.procs h.fds.rows who q.value q.is) in
+      let same = process_is (state_of h) who (holding h.fds.processes who q.value) (found h.procs.procs h.fds.processes who q.value q.is) in
       subst (λ (x : State). PlaysRow x log (row x (process_at x who)) r t log) is
       (subst (λ x. PlaysRow (state_of h) log (row (state_of h) x) r t log) (sym same) (plays q.value q.is))

@@ -6,7 +6,7 @@ use Rattle.kern_model.specs.declared.checks.Check.{Check}
 use Rattle.kern_model.specs.ProcessRows.{asks_ids, or_effective}
 use Rattle.kern_model.specs.Row.{Row, Need, Soft}
 use Rattle.chk_rules.specs.CheckLog.{CheckLog}
-use Rattle.chk_rules.specs.Ends.{GoesOn}
+use Rattle.chk_rules.specs.RowSteps.{GoesOn}
 use Rattle.chk_rules.specs.declared.stop.Stop.{Stop}
 use Rattle.chk_rules.proofs.Steps.{then_goes, stops_there, need_goes, need_stops, gives}
 

@@ -29,14 +29,14 @@ with_id kind.User ids id all = with_user ids id all
 with_id kind.Group ids id all = with_group ids id all
 
 -- the soft check of a call that sets all three ids of a kind
-abbrev pub all_name : IdKind → CheckName
-all_name kind.User = check.SetuidAll
-all_name kind.Group = check.SetgidAll
+abbrev pub all_check_name : IdKind → CheckName
+all_check_name kind.User = check.SetuidAll
+all_check_name kind.Group = check.SetgidAll
 
 -- the check of a call that sets the effective id of a kind alone
-abbrev pub effective_name : IdKind → CheckName
-effective_name kind.User = check.Setuid
-effective_name kind.Group = check.Setgid
+abbrev pub effective_check_name : IdKind → CheckName
+effective_check_name kind.User = check.Setuid
+effective_check_name kind.Group = check.Setgid
 
 -- whether all three ids are this one
 abbrev pub are_all : HeldIds → ℕ → Bool
@@ -52,11 +52,11 @@ may_set k ids id all = all || may_be_effective (held_ids k ids) id
 
 -- soft: the real, effective and saved id of a kind are the one asked for
 abbrev pub all_check : IdKind → Pid → Process → ℕ → Check
-all_check k who p id = on_caller (all_name k) (are_all (held_ids k p.ids) id) None who p
+all_check k who p id = on_caller (all_check_name k) (are_all (held_ids k p.ids) id) None who p
 
 -- the real or the saved id of a kind is the one asked for
 abbrev pub effective_check : IdKind → Pid → Process → ℕ → Check
-effective_check k who p id = on_caller (effective_name k) (may_be_effective (held_ids k p.ids) id) None who p
+effective_check k who p id = on_caller (effective_check_name k) (may_be_effective (held_ids k p.ids) id) None who p
 
 -- an id of a kind is asked for
 abbrev pub asks_id : IdKind → Pid → Process → ℕ → (Bool → Row) → Row

@@ -5,7 +5,7 @@ ghost use Rattle.kern_model.specs.ProcessRows.{asks_signal, exit_row, kill_row, 
 ghost use Rattle.kern_model.specs.Rules.{kill_rule as kill_check, mac_write_process};
 ghost use Rattle.kern_model.specs.State.{process_at};
 ghost use Rattle.kern_model.specs.Valid.{IsValid};
-ghost use Rattle.chk_rules.specs.Ends.{GoesOn};
+ghost use Rattle.chk_rules.specs.RowSteps.{GoesOn};
 ghost use Rattle.proc_table.specs.Procs.{creds_of};
 ghost use Rattle.sys_lookup.specs.PlaysRow.{PlaysRow};
 ghost use Rattle.sys_proc.specs.Playing.{PlaysUnchecked};

@@ -1,6 +1,6 @@
 // The kinds of ids that a process has three of: a real, an effective and a saved one.
 ghost use Rattle.std.specs.Prelude.{◌≡◌, OnErr, OnOk, false, true};
-ghost use Rattle.sys_proc.specs.IdKind.{all_name, are_all, effective_name, held_ids, may_be_effective, may_set, with_id};
+ghost use Rattle.sys_proc.specs.IdKind.{all_check_name, are_all, effective_check_name, held_ids, may_be_effective, may_set, with_id};
 
 use kern_model::{CheckName, Ids};
 use proc_creds::{Creds, NotAllowed};
@@ -40,8 +40,8 @@ impl IdKind {
     }
 
     /// The soft check of a call that sets all three.
-    pub fn all_name(self) -> CheckName
-        ensures { result ≡ all_name self }
+    pub fn all_check_name(self) -> CheckName
+        ensures { result ≡ all_check_name self }
     {
         match self {
             IdKind::User => CheckName::SetuidAll,
@@ -50,8 +50,8 @@ impl IdKind {
     }
 
     /// The check of a call that sets the effective one alone.
-    pub fn effective_name(self) -> CheckName
-        ensures { result ≡ effective_name self }
+    pub fn effective_check_name(self) -> CheckName
+        ensures { result ≡ effective_check_name self }
     {
         match self {
             IdKind::User => CheckName::Setuid,

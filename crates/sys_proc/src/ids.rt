@@ -3,7 +3,7 @@ ghost use Rattle.std.specs.Prelude.{◌≡◌, true, IfOk, IsSome};
 ghost use Rattle.std.specs.FinMap as map;
 ghost use Rattle.kern_model.specs.ProcessRows.{setgid_row, setuid_row};
 ghost use Rattle.kern_model.specs.State.{process_at};
-ghost use Rattle.chk_rules.specs.Ends.{GoesOn};
+ghost use Rattle.chk_rules.specs.RowSteps.{GoesOn};
 ghost use Rattle.sys_lookup.specs.PlaysRow.{PlaysRow};
 ghost use Rattle.sys_proc.specs.IdKind.{all_check, asks_id, effective_check, may_set, set_id_row};
 
@@ -81,7 +81,7 @@ fn all_check(caller: &Caller<'_>, who: &Pid, kind: IdKind, id: u32) -> Check
 {
     let creds = caller.creds();
     let holds = kind.held(&creds.ids).are_all(id);
-    check_of_caller(kind.all_name(), holds, None, caller, who)
+    check_of_caller(kind.all_check_name(), holds, None, caller, who)
 }
 
 // The check whether the id is the real or the saved one.
@@ -90,5 +90,5 @@ fn effective_check(caller: &Caller<'_>, who: &Pid, kind: IdKind, id: u32) -> Che
 {
     let creds = caller.creds();
     let holds = kind.held(&creds.ids).may_be_effective(id);
-    check_of_caller(kind.effective_name(), holds, None, caller, who)
+    check_of_caller(kind.effective_check_name(), holds, None, caller, who)
 }

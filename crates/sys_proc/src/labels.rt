@@ -4,7 +4,7 @@ ghost use Rattle.std.specs.FinMap as map;
 ghost use Rattle.kern_model.specs.ProcessRows.{asks_own_label, mac_set_proc_row};
 ghost use Rattle.kern_model.specs.Rules.{mac_subject};
 ghost use Rattle.kern_model.specs.State.{process_at};
-ghost use Rattle.chk_rules.specs.Ends.{GoesOn};
+ghost use Rattle.chk_rules.specs.RowSteps.{GoesOn};
 ghost use Rattle.sys_lookup.specs.PlaysRow.{PlaysRow};
 
 use crate::changing::{CredsChange, change_creds};

@@ -1,5 +1,6 @@
 -- What the rows that make and move entries ask beside their checks.
-use Rattle.std.specs.Prelude.{◌≡◌, ⊤, ℕ, ◌&&◌, ◌<◌, true, false, nat_le, Option, None, Some, Result, cond, refl}
+use Rattle.std.specs.Prelude.{◌≡◌, ⊤, ℕ, ◌&&◌, ◌<◌, true, false, nat_le, Option, None, Some, Result, Ok, Err, cond, refl}
+use Rattle.std.specs.Result.{IsErrAnd}
 use Rattle.std.specs.FinMap as map
 use Rattle.std.specs.FinMap.{FinMap}
 use Rattle.std.proofs.Common.{ap, sym, ◌∙◌, subst, inl, inr, arith, leb-false}
@@ -19,12 +20,13 @@ use Rattle.kern_model.specs.Kinds.{is_dir}
 use Rattle.kern_model.specs.Maps.{get_or}
 use Rattle.kern_model.specs.Row.{Row}
 use Rattle.kern_model.specs.Rules.{held_order}
-use Rattle.kern_model.specs.State.{State, Process, object_at, root, stub_object}
+use Rattle.kern_model.specs.State.{State, Process, object_at, process_at, root, stub_object}
+use Rattle.kern_model.specs.TreeRows.{old_entry}
 use Rattle.kern_model.specs.Valid.{IsDir, IsValid}
 use Rattle.kern_model.specs.Walk.{on_path, start_of}
 use Rattle.kern_model.proofs.MapLemmas.{get_or-found, never_some, some_same}
 use Rattle.chk_rules.specs.CheckLog.{CheckLog}
-use Rattle.chk_rules.specs.Ends.{GoesOn}
+use Rattle.chk_rules.specs.RowSteps.{GoesOn}
 use Rattle.chk_rules.specs.declared.stop.Stop.{Stop}
 use Rattle.fs_dirs.specs.Tree.{MayBeAdded, TreeView, state_of_tree, would_loop}
 use Rattle.fs_dirs.proofs.SameEntries.{is_under-same}
@@ -35,7 +37,8 @@ use Rattle.sys_lookup.specs.Callers.{CallerView, caller_in}
 use Rattle.sys_lookup.specs.PlaysRow.{PlaysRow}
 use Rattle.sys_lookup.specs.Shared.{metadata_of, state_of}
 use Rattle.sys_lookup.specs.Walks.{IsEntry, IsLedTo}
-use Rattle.sys_tree.specs.Entries.{IsReadBy}
+use Rattle.sys_lookup.proofs.PlayLemmas.{step_called, stops_row, then_plays}
+use Rattle.sys_tree.specs.Entries.{IsReadBy, entry_taken}
 
 -- the row of an entry whose object's metadata are known
 abbrev pub on_entry : (Oid × Name × Oid → Row) → Oid × Name × Metadata → Row
@@ -60,6 +63,27 @@ entry_in {dir = dir} {name = name} {object = object} same entry = subst (λ (x :
 -- a call that changes nothing plays the row of the process with the caller's number
 pub called_still : {s : State} {a b : CheckLog} {r : Result Effect Stop} {who : Pid} {k : CallerView} (row : CallerView → Row) → k ≡ caller_in s who → PlaysRow k.state a (row k) r k.state b → PlaysRow s a (row (caller_in s who)) r s b
 called_still {a = a} {b = b} {r = r} row same plays = subst (λ (x : CallerView). PlaysRow x.state a (row x) r x.state b) same plays
+
+-- ---- the first steps of a row
+
+module _ (s : State) (who : Pid) {k : CallerView} (same : k ≡ caller_in s who) (path : PathValue) {a b : CheckLog} where
+  -- the row of a call on what its first path leads to goes on from there
+  pub path_plays : {c : CheckLog} {t : State} {r : Result Effect Stop} {id : Oid} {place : Place} (row : Oid → Place → Row) → GoesOn a (reached k path) (Ok (id, place)) b → PlaysRow s b (row id place) r t c
+      → PlaysRow s a (on_path s (process_at s who) path row) r t c
+  path_plays row step plays = then_plays {rest = on_reached row} (step_called (λ (x : CallerView). reached x path) same step) plays
+
+  -- or stops before
+  pub path_stops : {how : Stop} (row : Oid → Place → Row) (r : Result Effect Stop) → IsErrAnd r (λ e. e ≡ how) → GoesOn a (reached k path) (Err how) b → PlaysRow s a (on_path s (process_at s who) path row) r s b
+  path_stops row r is step = stops_row {rest = on_reached row} r is refl (step_called (λ (x : CallerView). reached x path) same step)
+
+  -- the row of a call that takes away an entry goes on where it may be taken away
+  pub entry_plays : {c : CheckLog} {t : State} {r : Result Effect Stop} {e : Oid × Name × Metadata} (row : Oid × Name × Oid → Row) → GoesOn a (entry_taken k path) (Ok e) b → PlaysRow s b (on_entry row e) r t c
+      → PlaysRow s a (old_entry s (process_at s who) path row) r t c
+  entry_plays row step plays = then_plays {rest = on_entry row} (step_called (λ (x : CallerView). entry_taken x path) same step) plays
+
+  -- or stops before
+  pub entry_stops : {how : Stop} (row : Oid × Name × Oid → Row) (r : Result Effect Stop) → IsErrAnd r (λ e. e ≡ how) → GoesOn a (entry_taken k path) (Err how) b → PlaysRow s a (old_entry s (process_at s who) path row) r s b
+  entry_stops row r is step = stops_row {rest = on_entry row} r is refl (step_called (λ (x : CallerView). entry_taken x path) same step)
 
 -- ---- the directory that gets an entry
 

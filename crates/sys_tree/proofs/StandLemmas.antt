@@ -15,17 +15,17 @@ use Rattle.sys_lookup.proofs.OwnerLemmas.{owners_process}
 
 module _ (h : Inside) {s : State} (is : state_of h ≡ s) (who : Pid) (living : IsSome (map.get s.procs who)) where
   -- it stands in the table
-  pub stands : StandsIn h.procs.procs h.fds.rows who (process_at s who)
-  stands = stands_in h.procs.procs h.fds.rows who (process_at s who) (ap (λ (x : State). map.get x.procs who) is ∙ process_there s who living)
+  pub stands : StandsIn h.procs.procs h.fds.processes who (process_at s who)
+  stands = stands_in h.procs.procs h.fds.processes who (process_at s who) (ap (λ (x : State). map.get x.procs who) is ∙ process_there s who living)
 
   module _ (dir : Oid) {t : ProcTable} (set : t ≡ with_process h.procs who (record stands.process { cwd = dir })) where
     -- in the state it gets the directory that it gets in the table
     pub cwd_set : state_of (record h { procs = t }) ≡ changed s (SetProcess who (record (process_at s who) { cwd = dir }))
     cwd_set =
-        (λ i. record (state_of h) { procs = with_fds (set i).procs h.fds.rows; process_numbers = (set i).numbers })
-        ∙ (λ i. record (state_of h) { procs = with_fds-process h.procs.procs h.fds.rows who (record stands.process { cwd = dir }) i })
+        (λ i. record (state_of h) { procs = with_fds (set i).procs h.fds.processes; process_numbers = (set i).numbers })
+        ∙ (λ i. record (state_of h) { procs = with_fds-process h.procs.procs h.fds.processes who (record stands.process { cwd = dir }) i })
         ∙ (λ i. changed (is i) (SetProcess who (record (stands.same i) { cwd = dir })))
 
     -- each process that has descriptors stays living
-    pub owners_stay : ∥ HasOwners h.procs.procs h.fds.rows ∥₁ → ∥ HasOwners t.procs h.fds.rows ∥₁
-    owners_stay owners = subst (λ (x : ProcTable). ∥ HasOwners x.procs h.fds.rows ∥₁) (sym set) (owners_process h.procs.procs h.fds.rows who (record stands.process { cwd = dir }) owners)
+    pub owners_stay : ∥ HasOwners h.procs.procs h.fds.processes ∥₁ → ∥ HasOwners t.procs h.fds.processes ∥₁
+    owners_stay owners = subst (λ (x : ProcTable). ∥ HasOwners x.procs h.fds.processes ∥₁) (sym set) (owners_process h.procs.procs h.fds.processes who (record stands.process { cwd = dir }) owners)

@@ -1,15 +1,20 @@
 -- Entries whose object was read.
-use Rattle.std.specs.Prelude.{◌≡◌, ⊤, Bool, Option}
+use Rattle.std.specs.Prelude.{◌≡◌, ⊤, Bool, Option, Some, Result}
 use Rattle.fs_path.specs.Name.{Name}
 use Rattle.fs_path.specs.Path.{PathValue}
 use Rattle.kern_model.specs.declared.checks.Place.TheVariants.{Second}
 use Rattle.kern_model.specs.declared.numbers.Oid.{Oid}
 use Rattle.kern_model.specs.Row.{Row}
-use Rattle.kern_model.specs.State.{State}
-use Rattle.kern_model.specs.TreeRows.{gives_way, may_replace, old_entry}
+use Rattle.kern_model.specs.State.{State, look}
+use Rattle.kern_model.specs.TreeRows.{gives_way, may_replace, move_row, old_entry}
 use Rattle.kern_model.specs.Walk.{last_place}
+use Rattle.chk_rules.specs.CheckLog.{CheckLog}
+use Rattle.chk_rules.specs.RowSteps.{GoesOn}
+use Rattle.chk_rules.specs.declared.stop.Stop.{Stop}
 use Rattle.sys_lookup.specs.Callers.{CallerView}
+use Rattle.sys_lookup.specs.PlaysRow.{PlaysRow}
 use Rattle.sys_lookup.specs.Shared.{metadata_of}
+use Rattle.sys_lookup.specs.declared.effect.Effect.{Effect}
 use Rattle.sys_lookup.specs.declared.shared.Metadata.{Metadata}
 
 -- the metadata are those of their object in the state of the caller
@@ -31,3 +36,13 @@ target_left k to id target rest = gives_way k.state k.process id target (last_pl
 -- an object may take the place of another one, and the caller read both
 abbrev pub replaces : CallerView → Metadata → Metadata → (⊤ → Row) → Row
 replaces k object target rest = may_replace k.state object.id target.id (rest tt)
+
+-- a step without a check refuses that an object takes the place of another one where it may not, if the caller read both
+abbrev pub JudgesReplacing : CallerView → Metadata → Metadata → Result ⊤ Stop → Type 0
+JudgesReplacing k object target result = (log : CheckLog) → IsReadBy k object → IsReadBy k target → GoesOn log (replaces k object target) result log
+
+-- ---- an entry that moves
+
+-- a body without a check plays the row of a move: that of the entry with a name in a directory to another directory and name
+abbrev pub PlaysMove : State → Oid → Name → Oid → Name → Result Effect Stop → State → Type 0
+PlaysMove s dir name into new result t = (id : Oid) (log : CheckLog) → look s dir name ≡ Some id → PlaysRow s log (move_row s dir name id into new) result t log

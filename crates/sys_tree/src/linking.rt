@@ -4,12 +4,12 @@ ghost use Rattle.std.specs.FinMap as map;
 ghost use Rattle.kern_model.specs.Arguments.{are_names};
 ghost use Rattle.kern_model.specs.Entries.{is_removed, link_count};
 ghost use Rattle.kern_model.specs.Kinds.{is_dir};
-ghost use Rattle.kern_model.specs.State.{object_at, process_at};
+ghost use Rattle.kern_model.specs.State.{object_at};
 ghost use Rattle.kern_model.specs.TreeRows.{asks_name, link_row, name_spot};
 ghost use Rattle.kern_model.specs.Valid.{IsValid};
 ghost use Rattle.kern_model.specs.declared.limits.TheConstants.{MAX_LINKS};
-ghost use Rattle.chk_rules.specs.Ends.{GoesOn};
-ghost use Rattle.sys_lookup.specs.PlaysRow.{PlaysRow};
+ghost use Rattle.chk_rules.specs.RowSteps.{GoesOn};
+ghost use Rattle.sys_lookup.specs.PlaysRow.{PlaysCall};
 ghost use Rattle.sys_lookup.specs.Walks.{IsEntry};
 
 use chk_rules::{Checks, Stop, refuse_if};
@@ -27,7 +27,7 @@ pub fn link(
 ) -> Result<Effect, Stop>
     requires valid { ∥ IsValid shared.old ∥₁ }
     requires living { IsSome (map.get shared.old.procs who.now) }
-    ensures played { PlaysRow shared.old checks.old (link_row shared.old who.now (process_at shared.old who.now) path.now to.now) result shared.new checks.new }
+    ensures played { PlaysCall shared.old who.now checks.old (λ s who p. link_row s who p path.now to.now) result shared.new checks.new }
     ensures names { are_names to.now ≡ true }
 {
     let _names = to.components();

@@ -2,10 +2,9 @@
 ghost use Rattle.std.specs.Prelude.{◌≡◌, IsSome, true};
 ghost use Rattle.std.specs.FinMap as map;
 ghost use Rattle.kern_model.specs.Arguments.{are_names};
-ghost use Rattle.kern_model.specs.State.{process_at};
 ghost use Rattle.kern_model.specs.TreeRows.{mkdir_row};
 ghost use Rattle.kern_model.specs.Valid.{IsValid};
-ghost use Rattle.sys_lookup.specs.PlaysRow.{PlaysRow};
+ghost use Rattle.sys_lookup.specs.PlaysRow.{PlaysCall};
 
 use chk_rules::{Checks, Stop};
 use kern_model::{Body, Mode, Path, Pid};
@@ -21,7 +20,7 @@ pub fn mkdir(
 ) -> Result<Effect, Stop>
     requires valid { ∥ IsValid shared.old ∥₁ }
     requires living { IsSome (map.get shared.old.procs who.now) }
-    ensures played { PlaysRow shared.old checks.old (mkdir_row shared.old who.now (process_at shared.old who.now) path.now mode) result shared.new checks.new }
+    ensures played { PlaysCall shared.old who.now checks.old (λ s who p. mkdir_row s who p path.now mode) result shared.new checks.new }
     ensures names { are_names path.now ≡ true }
 {
     let body = Body::Dir;

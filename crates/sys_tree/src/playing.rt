@@ -20,6 +20,7 @@ use sys_lookup::{Caller, Effect, Shared};
 
 /// Plays a call of a living process on directories and names.
 #[inline(never)]
+#[tactic(auto, unfolding(kern_model::specs::Arguments::has_names))]
 pub fn play(
     shared: &mut Shared,
     checks: &mut Checks,

@@ -1,7 +1,6 @@
 // The calls `stat` and `readdir`, which change nothing.
 ghost use Rattle.kern_model.specs.TreeRows.{readdir_row, stat_row};
-ghost use Rattle.kern_model.specs.declared.numbers.Pid.{Pid};
-ghost use Rattle.sys_lookup.specs.PlaysRow.{PlaysRow};
+ghost use Rattle.sys_tree.specs.Playing.{PlaysReading};
 
 use chk_rules::{Checks, Stop, refuse_if};
 use kern_model::{Answer, Errno, Path};
@@ -9,7 +8,7 @@ use sys_lookup::{Caller, Effect, PathArgument};
 
 /// `stat`: what is reported of the object at the end of a path.
 pub fn stat(caller: &Caller<'_>, checks: &mut Checks, path: &Path) -> Result<Effect, Stop>
-    ensures { (who : Pid) → PlaysRow caller.now.state checks.old (stat_row caller.now.state who caller.now.process path.now) result caller.now.state checks.new }
+    ensures { PlaysReading caller.now checks.old (λ s who p. stat_row s who p path.now) result checks.new }
 {
     let (id, place) = caller.reach(checks, PathArgument::First, path)?;
     caller.read_object(checks, &id, place)?;
@@ -18,7 +17,7 @@ pub fn stat(caller: &Caller<'_>, checks: &mut Checks, path: &Path) -> Result<Eff
 
 /// `readdir`: the names in a directory, sorted by their bytes.
 pub fn readdir(caller: &Caller<'_>, checks: &mut Checks, path: &Path) -> Result<Effect, Stop>
-    ensures { (who : Pid) → PlaysRow caller.now.state checks.old (readdir_row caller.now.state who caller.now.process path.now) result caller.now.state checks.new }
+    ensures { PlaysReading caller.now checks.old (λ s who p. readdir_row s who p path.now) result checks.new }
 {
     let (id, place) = caller.reach(checks, PathArgument::First, path)?;
     let dir = caller.read_object(checks, &id, place)?;

@@ -1,11 +1,11 @@
 // The calls `rmdir` and `unlink`.
 ghost use Rattle.std.specs.Prelude.{◌≡◌, Some, IfOk, IsSome};
 ghost use Rattle.std.specs.FinMap as map;
-ghost use Rattle.kern_model.specs.State.{DropEntry, changed, look, process_at};
+ghost use Rattle.kern_model.specs.State.{DropEntry, changed, look};
 ghost use Rattle.kern_model.specs.TreeRows.{must_be_empty, rmdir_row, unlink_row};
 ghost use Rattle.chk_rules.specs.CheckLog.{CheckLog};
-ghost use Rattle.chk_rules.specs.Ends.{GoesOn};
-ghost use Rattle.sys_lookup.specs.PlaysRow.{PlaysRow};
+ghost use Rattle.chk_rules.specs.RowSteps.{GoesOn};
+ghost use Rattle.sys_lookup.specs.PlaysRow.{PlaysCall};
 ghost use Rattle.sys_lookup.specs.Walks.{IsEntry};
 ghost use Rattle.sys_tree.specs.Entries.{IsReadBy, entry_taken};
 
@@ -22,7 +22,7 @@ pub fn rmdir(
     path: &Path,
 ) -> Result<Effect, Stop>
     requires living { IsSome (map.get shared.old.procs who.now) }
-    ensures { PlaysRow shared.old checks.old (rmdir_row shared.old who.now (process_at shared.old who.now) path.now) result shared.new checks.new }
+    ensures { PlaysCall shared.old who.now checks.old (λ s who p. rmdir_row s who p path.now) result shared.new checks.new }
 {
     let caller = Caller::new(shared, who);
     let (dir, name, object) = old_entry(&caller, checks, path)?;
@@ -39,7 +39,7 @@ pub fn unlink(
     path: &Path,
 ) -> Result<Effect, Stop>
     requires living { IsSome (map.get shared.old.procs who.now) }
-    ensures { PlaysRow shared.old checks.old (unlink_row shared.old who.now (process_at shared.old who.now) path.now) result shared.new checks.new }
+    ensures { PlaysCall shared.old who.now checks.old (λ s who p. unlink_row s who p path.now) result shared.new checks.new }
 {
     let caller = Caller::new(shared, who);
     let (dir, name, object) = old_entry(&caller, checks, path)?;

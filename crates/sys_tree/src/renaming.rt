@@ -1,16 +1,14 @@
 // The call `rename`.
-ghost use Rattle.std.specs.Prelude.{◌≡◌, ◌&&◌, Some, IfOk, IsSome, not, true};
+ghost use Rattle.std.specs.Prelude.{◌≡◌, ◌&&◌, IfOk, IsSome, not, true};
 ghost use Rattle.std.specs.FinMap as map;
 ghost use Rattle.kern_model.specs.Arguments.{are_names};
-ghost use Rattle.kern_model.specs.State.{look, process_at};
-ghost use Rattle.kern_model.specs.TreeRows.{move_row, rename_row, target_entry};
+ghost use Rattle.kern_model.specs.State.{look};
+ghost use Rattle.kern_model.specs.TreeRows.{rename_row, target_entry};
 ghost use Rattle.kern_model.specs.Valid.{IsDir};
-ghost use Rattle.kern_model.specs.declared.numbers.Oid.{Oid as Number};
-ghost use Rattle.chk_rules.specs.CheckLog.{CheckLog};
-ghost use Rattle.chk_rules.specs.Ends.{GoesOn};
-ghost use Rattle.sys_lookup.specs.PlaysRow.{PlaysRow};
+ghost use Rattle.chk_rules.specs.RowSteps.{GoesOn};
+ghost use Rattle.sys_lookup.specs.PlaysRow.{PlaysCall};
 ghost use Rattle.sys_lookup.specs.Walks.{IsEntry};
-ghost use Rattle.sys_tree.specs.Entries.{IsReadBy, replaces, target_left};
+ghost use Rattle.sys_tree.specs.Entries.{IsReadBy, JudgesReplacing, PlaysMove, target_left};
 
 use crate::removing::old_entry;
 use chk_rules::{Checks, Stop, refuse_if};
@@ -27,7 +25,7 @@ pub fn rename(
     to: &Path,
 ) -> Result<Effect, Stop>
     requires living { IsSome (map.get shared.old.procs who.now) }
-    ensures played { PlaysRow shared.old checks.old (rename_row shared.old who.now (process_at shared.old who.now) path.now to.now) result shared.new checks.new }
+    ensures played { PlaysCall shared.old who.now checks.old (λ s who p. rename_row s who p path.now to.now) result shared.new checks.new }
     ensures names { are_names to.now ≡ true }
 {
     let _names = to.components();
@@ -82,7 +80,7 @@ fn give_way(
 
 // Refuses that an object takes the place of another one that is of another sort, or is a directory with entries.
 fn may_replace(caller: &Caller<'_>, object: &Metadata, target: &Metadata) -> Result<(), Stop>
-    ensures { (log : CheckLog) → IsReadBy caller.now object.now → IsReadBy caller.now target.now → GoesOn log (replaces caller.now object.now target.now) result log }
+    ensures { JudgesReplacing caller.now object.now target.now result }
 {
     let moves = object.is_directory();
     let goes = target.is_directory();
@@ -109,7 +107,7 @@ fn move_entry(
 ) -> Result<Effect, Stop>
     requires into { IsDir shared.old.objects into.now }
     requires there { IsSome (look shared.old dir.now name.now) }
-    ensures { (id : Number) (log : CheckLog) → look shared.old dir.now name.now ≡ Some id → PlaysRow shared.old log (move_row shared.old dir.now name.now id into.now new.now) result shared.new log }
+    ensures { PlaysMove shared.old dir.now name.now into.now new.now result shared.new }
 {
     match shared.tree.move_entry(dir, name.name(), into, new.name()) {
         Ok(()) => Ok(Effect::done()),

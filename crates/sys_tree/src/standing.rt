@@ -3,7 +3,7 @@ ghost use Rattle.std.specs.Prelude.{◌≡◌, IsSome};
 ghost use Rattle.std.specs.FinMap as map;
 ghost use Rattle.kern_model.specs.State.{SetProcess, changed, process_at};
 ghost use Rattle.kern_model.specs.TreeRows.{chdir_row};
-ghost use Rattle.sys_lookup.specs.PlaysRow.{PlaysRow};
+ghost use Rattle.sys_lookup.specs.PlaysRow.{PlaysCall};
 
 use chk_rules::{Checks, Stop};
 use kern_model::{Oid, Path, Pid};
@@ -17,17 +17,17 @@ pub fn chdir(
     path: &Path,
 ) -> Result<Effect, Stop>
     requires living { IsSome (map.get shared.old.procs who.now) }
-    ensures { PlaysRow shared.old checks.old (chdir_row shared.old who.now (process_at shared.old who.now) path.now) result shared.new checks.new }
+    ensures { PlaysCall shared.old who.now checks.old (λ s who p. chdir_row s who p path.now) result shared.new checks.new }
 {
     let caller = Caller::new(shared, who);
     let (id, place) = caller.reach(checks, PathArgument::First, path)?;
     caller.enter(checks, &id, place)?;
-    stand_in(shared, who, id);
+    change_directory(shared, who, id);
     Ok(Effect::done())
 }
 
 // Has a directory be the current one of a living process.
-fn stand_in(shared: &mut Shared, who: &Pid, dir: Oid)
+fn change_directory(shared: &mut Shared, who: &Pid, dir: Oid)
     requires { IsSome (map.get shared.old.procs who.now) }
     ensures { shared.new ≡ changed shared.old (SetProcess who.now (record (process_at shared.old who.now) { cwd = dir })) }
 {

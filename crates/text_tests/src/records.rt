@@ -83,10 +83,15 @@ fn words(alloc: Global, names: &[&[u8]]) -> Result<Vec<Word>, NoMemory> {
     Ok(words)
 }
 
-fn policy(alloc: Global, cats: &[&[u8]]) -> Result<Policy, Fail> {
+fn policy(alloc: Global, cats: &[&[u8]], grades: &[&[u8]]) -> Result<Policy, Fail> {
     let levels = words(alloc, &[b"unc", b"conf", b"sec"])?;
     let cats = words(alloc, cats)?;
-    Ok(Policy::new(alloc, &levels, &cats).ok().ok_or("a policy")?)
+    let grades = words(alloc, grades)?;
+    Ok(
+        Policy::new(alloc, &levels, &cats, &grades)
+            .ok()
+            .ok_or("a policy")?,
+    )
 }
 
 // The first text that comes out otherwise.
@@ -98,13 +103,13 @@ fn other(alloc: Global, policy: &Policy) -> Option<usize> {
 
 #[test]
 fn texts(rt: HostRuntime) -> Result<(), Fail> {
-    let policy = policy(rt.alloc(), &[b"a", b"b"])?;
+    let policy = policy(rt.alloc(), &[b"a", b"b"], &[])?;
     assert_eq!(rt; other(rt.alloc(), &policy), None);
     Ok(())
 }
 
 // Texts, and how many bytes of each the header has, or which line of it is at fault.
-const HEADERS: [(&[u8], Result<usize, HeaderError>); 14] = [
+const HEADERS: [(&[u8], Result<usize, HeaderError>); 18] = [
     (
         b"trail 1\nlevels unc sec\ncategories a b\nbound cap_kill,cap_setuid\n0 boot",
         Ok(64),
@@ -143,6 +148,22 @@ const HEADERS: [(&[u8], Result<usize, HeaderError>); 14] = [
         b"trail 1\nlevels unc\ncategories\nbound cap_x\n",
         Err(Name(4)),
     ),
+    (
+        b"trail 1\nlevels unc\ncategories\ngrades low high\nbound all\n",
+        Ok(56),
+    ),
+    (
+        b"trail 1\nlevels unc\ncategories\ngrades\nbound all\n",
+        Err(Form(4)),
+    ),
+    (
+        b"trail 1\nlevels unc\ncategories\ngrades low low\nbound all\n",
+        Err(Name(4)),
+    ),
+    (
+        b"trail 1\nlevels unc\ncategories\ngrades low\nbound cap_x\n",
+        Err(Name(5)),
+    ),
 ];
 
 // The first text whose header comes out otherwise.
@@ -157,9 +178,8 @@ fn header_texts(rt: HostRuntime) -> Result<(), Fail> {
     Ok(())
 }
 
-fn is_header(alloc: Global, cats: &[&[u8]], bound: &CapSet, text: &[u8]) -> Result<bool, Fail> {
-    let policy = policy(alloc, cats)?;
-    let header = header_text(alloc, &policy, bound)?;
+fn is_header(alloc: Global, policy: &Policy, bound: &CapSet, text: &[u8]) -> Result<bool, Fail> {
+    let header = header_text(alloc, policy, bound)?;
     Ok(header.as_slice() == text)
 }
 
@@ -169,7 +189,7 @@ fn headers(rt: HostRuntime) -> Result<(), Fail> {
     assert!(rt;
         is_header(
             rt.alloc(),
-            &[b"a", b"b"],
+            &policy(rt.alloc(), &[b"a", b"b"], &[])?,
             &bound,
             b"trail 1\nlevels unc conf sec\ncategories a b\nbound cap_kill,cap_setuid\n"
         )?
@@ -177,9 +197,17 @@ fn headers(rt: HostRuntime) -> Result<(), Fail> {
     assert!(rt;
         is_header(
             rt.alloc(),
-            &[],
+            &policy(rt.alloc(), &[], &[])?,
             &CapSet::all(),
             b"trail 1\nlevels unc conf sec\ncategories\nbound all\n"
+        )?
+    );
+    assert!(rt;
+        is_header(
+            rt.alloc(),
+            &policy(rt.alloc(), &[], &[b"low", b"high"])?,
+            &CapSet::all(),
+            b"trail 1\nlevels unc conf sec\ncategories\ngrades low high\nbound all\n"
         )?
     );
     Ok(())

@@ -17,7 +17,7 @@ fn words(alloc: Global, text: &[u8]) -> Result<Vec<Word>, NoMemory> {
 fn policy_of(alloc: Global, levels: &[u8], cats: &[u8]) -> Result<Policy, PolicyError> {
     let levels = words(alloc, levels).map_err(PolicyError::NoMemory)?;
     let cats = words(alloc, cats).map_err(PolicyError::NoMemory)?;
-    Policy::new(alloc, &levels, &cats)
+    Policy::new(alloc, &levels, &cats, &[])
 }
 
 // Three levels and two categories.

@@ -51,6 +51,27 @@ const HEADS: &[(&[u8], Answer)] = &[
     (b"world 1\nlevels a\ncategories a\n", Ended(4, 0)),
     (b"world 1\nlevels a\ncategories b b\n", Refused(3, Repeated)),
     (
+        b"world 1\nlevels a\ncategories\ngrades low\nbound all\n",
+        Ended(6, 0),
+    ),
+    (
+        b"world 1\nlevels a\ncategories\ngrades\n",
+        Refused(4, Syntax),
+    ),
+    (
+        b"world 1\nlevels a\ncategories\ngrades low 9\n",
+        Refused(4, Syntax),
+    ),
+    (
+        b"world 1\nlevels a\ncategories\ngrades low low\n",
+        Refused(4, Repeated),
+    ),
+    (
+        b"world 1\nlevels a\ncategories\ngrades low\ngrades high\n",
+        Refused(5, Syntax),
+    ),
+    (b"world 1\nlevels a\ngrades low\n", Refused(3, Syntax)),
+    (
         b"world 1\nlevels a\ncategories\nbound\n",
         Refused(4, Syntax),
     ),
@@ -95,6 +116,10 @@ const LONG_HEADS: &[(Repeated, Answer)] = &[
     (
         (b"world 1\nlevels a\ncategories", b" b", 65, b" 9\n"),
         Refused(3, Syntax),
+    ),
+    (
+        (b"world 1\nlevels a\ncategories\ngrades", b" c", 17, b"\n"),
+        Refused(4, TooMany),
     ),
 ];
 
@@ -427,6 +452,23 @@ fn is_written(alloc: Global, text: &[u8], written: &[u8]) -> Result<bool, WorldE
 fn written_round_trip(rt: HostRuntime) -> Result<(), Fail> {
     assert!(rt; is_written(rt.alloc(), SPELLED, WRITTEN)?);
     assert!(rt; is_written(rt.alloc(), WRITTEN, WRITTEN)?);
+    Ok(())
+}
+
+// A world with grades, as it is written.
+const GRADED: &[u8] = b"world 1\n\
+    levels unc\n\
+    categories a\n\
+    grades low mid high\n\
+    bound none\n\
+    dir / 0777 0 0 unc\n\
+    file /l 0666 1 1 unc:a/low \"\"\n\
+    proc unc/mid 1 1 - \"=\"\n\
+    script\n";
+
+#[test]
+fn grades_round_trip(rt: HostRuntime) -> Result<(), Fail> {
+    assert!(rt; is_written(rt.alloc(), GRADED, GRADED)?);
     Ok(())
 }
 

@@ -21,9 +21,9 @@ use Rattle.lab_lattice.specs.Label.{Label, dominates, bottom}
 use Rattle.lab_lattice.proofs.Labels.{dominates_both, dominates_bottom}
 use Rattle.lab_text.specs.Names.{Names, same_bytes, is_label_name}
 use Rattle.lab_text.specs.Policy.{PolicyNames, with_names, no_names, names_fault, MakePolicy, top_of}
-use Rattle.lab_text.specs.Lists.{next_list}
+use Rattle.lab_text.specs.Lists.{next_list, keyword_of as list_keyword}
 use Rattle.lab_text.specs.declared.lists.NameList.{NameList}
-use Rattle.lab_text.specs.declared.lists.NameList.TheVariants.{Levels}
+use Rattle.lab_text.specs.declared.lists.NameList.TheVariants.{Levels, Categories, Grades}
 use Rattle.lab_text.specs.declared.policy.PolicyError.{PolicyError}
 use Rattle.lab_text.specs.Text.{is_label_text, parse_label}
 use Rattle.lab_text.proofs.Parsed.{parsed_valid}
@@ -61,7 +61,7 @@ use Rattle.world_text.specs.Processes.{proc_caps, proc_caps_of, ids_of, parse_pr
 use Rattle.world_text.specs.declared.format.Format.{Format}
 use Rattle.world_text.specs.Formats.{format_named}
 use Rattle.world_text.specs.Keywords.{keyword_of}
-use Rattle.world_text.specs.Expecting.{world_of, after_keyword, parse_script, parse_after, parse_tree_line, parse_words, parse_line}
+use Rattle.world_text.specs.Expecting.{world_of, after_keyword, parse_bound_line, parse_grades, parse_script, parse_after, parse_tree_line, parse_words, parse_line}
 use Rattle.world_text.specs.Reading.{Reading, Accepted, after, reading, read_text}
 use Rattle.world_text.proofs.BuilderLemmas.{count_more}
 use Rattle.world_text.proofs.RangeLemmas.{all_and_one}
@@ -89,6 +89,7 @@ record SoundTree (policy : PolicyNames) (t : Tree) : Type 0 where
 abbrev SoundExpecting : Expecting → Type 0
 SoundExpecting at.Format = Unit {0}
 SoundExpecting (at.Names format list names) = Unit {0}
+SoundExpecting (at.Grades format policy) = MakePolicy policy
 SoundExpecting (at.Bound format policy) = MakePolicy policy
 SoundExpecting (at.Tree w) = MakePolicy w.policy × SoundTree w.policy w.builder
 
@@ -173,7 +174,9 @@ format_sound (w ∷ []) = form_sound (format_named w) _ (λ format _. goes_on (a
 format_sound _ = refuses Syntax
 
 due_sound : (format : Format) (names : PolicyNames) (next : Option NameList) → MakePolicy names → SoundParsed (GoesOn (due_after format names next))
-due_sound format names (Some list) h = goes_on (at.Names format list names) tt
+due_sound format names (Some Levels) h = goes_on (at.Names format Levels names) tt
+due_sound format names (Some Categories) h = goes_on (at.Names format Categories names) tt
+due_sound format names (Some Grades) h = goes_on (at.Grades format names) h
 due_sound format names None h = goes_on (at.Bound format names) h
 
 names_sound : (format : Format) (list : NameList) (before : PolicyNames) (names : Names) → SoundParsed (parse_names format list before names)
@@ -435,11 +438,20 @@ tree_line_sound : (w : PartialWorld) (ws : List LineWord) → MakePolicy w.polic
 tree_line_sound w [] h s fit = refuses Syntax
 tree_line_sound w (first ∷ ws) h s fit = form_sound (keyword_of first) _ (λ keyword _. keyword_line_sound keyword w (bytes_in ws) h s (names_fit ws fit.1))
 
+bound_line_sound : (format : Format) (policy : PolicyNames) (ws : List LineWord) → MakePolicy policy → AllFit ws → SoundParsed (parse_bound_line format policy ws)
+bound_line_sound format policy ws h fit = keyword_sound _ ws _ fit (λ names _. bound_sound format policy names h)
+
+grades_sound : (format : Format) (policy : PolicyNames) (names : Option Names) (ws : List LineWord) → MakePolicy policy → AllFit ws → SoundParsed (parse_grades format policy names ws)
+grades_sound format policy (Some (name ∷ names)) ws h fit = names_sound format Grades policy (name ∷ names)
+grades_sound format policy (Some []) ws h fit = bound_line_sound format policy ws h fit
+grades_sound format policy None ws h fit = bound_line_sound format policy ws h fit
+
 words_sound : (expecting : Expecting) (ws : List LineWord) → SoundExpecting expecting → AllFit ws → SoundParsed (parse_words expecting ws)
 unfolding parse_words
 words_sound at.Format ws h fit = keyword_sound _ ws _ fit (λ names _. format_sound names)
 words_sound (at.Names format list before) ws h fit = keyword_sound _ ws _ fit (λ names _. names_sound format list before names)
-words_sound (at.Bound format policy) ws h fit = keyword_sound _ ws _ fit (λ names _. bound_sound format policy names h)
+words_sound (at.Grades format policy) ws h fit = grades_sound format policy (after_keyword (list_keyword Grades) ws) ws h fit
+words_sound (at.Bound format policy) ws h fit = bound_line_sound format policy ws h fit
 words_sound (at.Tree w) ws h fit = tree_line_sound w ws h.0 h.1 fit
 
 -- no word of a line that is not too long is longer than a file may be

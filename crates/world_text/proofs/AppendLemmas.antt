@@ -1,5 +1,5 @@
 -- Lines that are written word by word.
-use Rattle.std.specs.Prelude.{◌≡◌, ℕ, List, [], ◌∷◌, ◌++◌, map, refl}
+use Rattle.std.specs.Prelude.{◌≡◌, ℕ, Bool, true, false, cond, List, [], ◌∷◌, ◌++◌, map, refl}
 use Rattle.std.proofs.Common.{ap, sym, ◌∙◌, append_assoc, append-nil}
 use Rattle.std.proofs.lemmas.Grind.{flat_map-append}
 use Rattle.std.specs.List.{flat_map}
@@ -8,7 +8,7 @@ use Rattle.fs_path.specs.Words.{spelling, line_text}
 use Rattle.lab_text.specs.Lists.{all_lists}
 use Rattle.lab_text.specs.Policy.{PolicyNames}
 use Rattle.lab_text.specs.declared.lists.NameList.{NameList}
-use Rattle.line_text.specs.Words.{list_words, list_line}
+use Rattle.line_text.specs.Words.{is_left_out, list_words, list_lines, list_text, names_lines}
 use Rattle.line_text.specs.Reply.{with_words}
 use Rattle.line_text.proofs.ReplyLemmas.{words_after}
 use Rattle.world_text.specs.Written.{bare, line_of}
@@ -19,17 +19,27 @@ spelled_bare [] = refl
 spelled_bare (name ∷ names) = ap (λ (ns : List (List ℕ)). name ∷ ns) (spelled_bare names)
 
 -- the lines of lists of names are spelled as they stand
-lists_spelled : (policy : PolicyNames) (lists : List NameList) → flat_map line_of (map (λ list. map bare (list_words policy list)) lists) ≡ flat_map (list_line policy) lists
+lists_spelled : (policy : PolicyNames) (lists : List NameList) → flat_map line_of (map (map bare) (flat_map (list_lines policy) lists)) ≡ flat_map (list_text policy) lists
 unfolding line_of
 lists_spelled policy [] = refl
-lists_spelled policy (list ∷ lists) = λ i. (line_text (spelled_bare (list_words policy list) i) ++ 10 ∷ []) ++ lists_spelled policy lists i
+lists_spelled policy (list ∷ lists) = by_test (is_left_out policy list) (lists_spelled policy lists)
+  where
+    more : List (List (List ℕ))
+    more = flat_map (list_lines policy) lists
+
+    line : List ℕ
+    line = line_text (list_words policy list) ++ 10 ∷ []
+
+    by_test : (b : Bool) → flat_map line_of (map (map bare) more) ≡ flat_map (list_text policy) lists → flat_map line_of (map (map bare) (cond b [] (list_words policy list ∷ []) ++ more)) ≡ cond b [] line ++ flat_map (list_text policy) lists
+    by_test true rest = rest
+    by_test false rest = λ i. (line_text (spelled_bare (list_words policy list) i) ++ 10 ∷ []) ++ rest i
 
 -- a first line, those of the lists of names and a last line after a text are the text and the head
-pub head_after : (policy : PolicyNames) (first last : List LineWord) (text a b new : List ℕ) → a ≡ text ++ line_of first → b ≡ a ++ flat_map (list_line policy) all_lists → new ≡ b ++ line_of last
-    → new ≡ text ++ flat_map line_of (first ∷ (map (λ list. map bare (list_words policy list)) all_lists ++ last ∷ []))
+pub head_after : (policy : PolicyNames) (first last : List LineWord) (text a b new : List ℕ) → a ≡ text ++ line_of first → b ≡ a ++ flat_map (list_text policy) all_lists → new ≡ b ++ line_of last
+    → new ≡ text ++ flat_map line_of (first ∷ (map (map bare) (names_lines policy) ++ last ∷ []))
 head_after policy first last text a b new s1 s2 end =
-    let names = flat_map (list_line policy) all_lists in
-    let lines = map (λ list. map bare (list_words policy list)) all_lists in
+    let names = flat_map (list_text policy) all_lists in
+    let lines = map (map bare) (names_lines policy) in
     let rest : flat_map line_of (lines ++ last ∷ []) ≡ names ++ line_of last = flat_map-append line_of lines (last ∷ []) ∙ (λ i. lists_spelled policy all_lists i ++ append-nil (line_of last) i) in
     end ∙ ap (λ (t : List ℕ). t ++ line_of last) (s2 ∙ ap (λ (t : List ℕ). t ++ names) s1) ∙ append_assoc (text ++ line_of first) names (line_of last) ∙ append_assoc text (line_of first) (names ++ line_of last)
     ∙ ap (λ (t : List ℕ). text ++ (line_of first ++ t)) (sym rest)

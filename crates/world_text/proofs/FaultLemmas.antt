@@ -8,7 +8,7 @@ use Rattle.lab_text.specs.Lists.{next_list, keyword_of}
 use Rattle.lab_text.specs.Names.{Names, is_label_name}
 use Rattle.lab_text.specs.Policy.{PolicyNames, with_names, no_names, names_fault}
 use Rattle.lab_text.specs.declared.lists.NameList.{NameList}
-use Rattle.lab_text.specs.declared.lists.NameList.TheVariants.{Levels}
+use Rattle.lab_text.specs.declared.lists.NameList.TheVariants.{Levels, Grades}
 use Rattle.lab_text.specs.declared.policy.PolicyError.{PolicyError}
 use Rattle.lab_text.specs.declared.policy.PolicyError.TheVariants as error
 use Rattle.cap_bits.specs.declared.state.CapState.{CapState}
@@ -34,7 +34,7 @@ use Rattle.world_text.specs.declared.tree.ObjectFields.{ObjectFields}
 use Rattle.world_text.specs.declared.values.WordValue.{WordValue}
 use Rattle.world_text.specs.declared.values.WordValue.TheVariants as value
 use Rattle.world_text.specs.declared.world.WorldText.{WorldText}
-use Rattle.world_text.specs.Expecting.{HasFaultOfWorld, is_of_world, world_of, after_keyword, parse_script, parse_after, parse_tree_line, parse_words}
+use Rattle.world_text.specs.Expecting.{HasFaultOfWorld, is_of_world, world_of, after_keyword, parse_bound_line, parse_grades, parse_script, parse_after, parse_tree_line, parse_words}
 use Rattle.world_text.specs.Head.{unless_fault, due_after, parse_format, parse_names, parse_bound}
 use Rattle.world_text.specs.Placing.{directory_of, is_above, is_directory, is_root, object_fault, process_fault}
 use Rattle.world_text.specs.Processes.{parse_process, parse_proc, parse_proc_line}
@@ -147,11 +147,20 @@ tree_line_has : (w : PartialWorld) (ws : List LineWord) → HasFaultOfWorld (par
 tree_line_has w [] = malformed
 tree_line_has w (first ∷ ws) = form_has _ _ (λ keyword. keyword_has keyword w (bytes_in ws))
 
+bound_line_has : (format : Format) (policy : PolicyNames) (ws : List LineWord) → HasFaultOfWorld (parse_bound_line format policy ws)
+bound_line_has format policy ws = form_has (after_keyword (codes "bound") ws) _ (bound_has format policy)
+
+grades_have : (format : Format) (policy : PolicyNames) (names : Option Names) (ws : List LineWord) → HasFaultOfWorld (parse_grades format policy names ws)
+grades_have format policy (Some (name ∷ names)) ws = names_have format Grades policy (name ∷ names)
+grades_have format policy (Some []) ws = bound_line_has format policy ws
+grades_have format policy None ws = bound_line_has format policy ws
+
 words_have : (expecting : Expecting) (ws : List LineWord) → HasFaultOfWorld (parse_words expecting ws)
 unfolding parse_words
 words_have at.Format ws = form_has (after_keyword (codes "world") ws) _ format_has
 words_have (at.Names format list names) ws = form_has (after_keyword (keyword_of list) ws) _ (names_have format list names)
-words_have (at.Bound format policy) ws = form_has (after_keyword (codes "bound") ws) _ (bound_has format policy)
+words_have (at.Grades format policy) ws = grades_have format policy (after_keyword (keyword_of Grades) ws) ws
+words_have (at.Bound format policy) ws = bound_line_has format policy ws
 words_have (at.Tree w) ws = tree_line_has w ws
 
 -- what the words of a line say has such a fault

@@ -20,12 +20,12 @@ use Rattle.fs_path.specs.Values.{mode_text, groups_text}
 use Rattle.fs_path.specs.Words.{has_spelling, with_quotes_if_needed, spelling, line_text}
 use Rattle.lab_lattice.specs.Label.{Label, dominates, bottom}
 use Rattle.lab_lattice.proofs.Labels.{dominates_itself}
-use Rattle.lab_text.proofs.PolicyFacts.{policy_facts, levels_alone}
+use Rattle.lab_text.proofs.PolicyFacts.{policy_facts, levels_alone, without_grades}
 use Rattle.lab_text.specs.Names.{Names, same_bytes, is_label_name}
-use Rattle.lab_text.specs.Policy.{PolicyNames, names_of, with_names, no_names, MakePolicy, is_valid}
+use Rattle.lab_text.specs.Policy.{PolicyNames, with_names, no_names, MakePolicy, is_valid}
 use Rattle.lab_text.specs.Lists.{next_list, keyword_of}
 use Rattle.lab_text.specs.declared.lists.NameList.{NameList}
-use Rattle.lab_text.specs.declared.lists.NameList.TheVariants.{Levels, Categories}
+use Rattle.lab_text.specs.declared.lists.NameList.TheVariants.{Levels, Categories, Grades}
 use Rattle.lab_text.specs.Text.{label_text}
 use Rattle.kern_model.specs.declared.limits.TheConstants.{MAX_OBJECTS, MAX_PROCS}
 use Rattle.kern_model.specs.declared.numbers.Ids.{Ids}
@@ -52,7 +52,7 @@ use Rattle.world_text.specs.declared.values.WordValue.{WordValue}
 use Rattle.world_text.specs.declared.values.WordValue.TheVariants as value
 use Rattle.world_text.specs.Placing.{is_directory, is_above, directory_of, is_root, object_fault, process_fault}
 use Rattle.world_text.specs.Values.{bytes_in, refuse_or, with_form, with_value, both, label_of, caps_of}
-use Rattle.world_text.specs.Head.{unless_fault, due_after, parse_names}
+use Rattle.world_text.specs.Head.{unless_fault, due_after, parse_names, parse_bound}
 use Rattle.world_text.specs.TreeLines.{object_fields_of, parse_object, parse_tree}
 use Rattle.world_text.specs.Processes.{proc_caps_of, proc_fields_of, ids_of, parse_process}
 use Rattle.world_text.specs.Expecting.{world_of, parse_words, parse_line}
@@ -122,48 +122,94 @@ format_line One = line_is at.Format (codes "world") (bare (codes "1") ∷ []) re
 names_begin : (list : NameList) → begins_line (keyword_of list) ≡ true
 names_begin Levels = refl
 names_begin Categories = refl
+names_begin Grades = refl
 
 list_spelling : (list : NameList) (names : Names) → list_all is_label_name names ≡ true → list_all has_spelling (names_words (keyword_of list) names) ≡ true
 list_spelling Levels names h = names_spelling names h
 list_spelling Categories names h = names_spelling names h
+list_spelling Grades names h = names_spelling names h
 
 names_said : (format : Format) (list : NameList) (before : PolicyNames) (names : Names) → parse_words (at.Names format list before) (names_words (keyword_of list) names) ≡ parse_names format list before (bytes_in (map bare names))
 unfolding parse_words
 names_said format Levels before names = refl
 names_said format Categories before names = refl
+names_said format Grades before names = refl
+
+-- names that make a policy with those before them are read
+names_parsed : (format : Format) (list : NameList) (before : PolicyNames) (names : Names) → list_all is_label_name names ≡ true → MakePolicy (with_names before list names)
+    → parse_names format list before (bytes_in (map bare names)) ≡ GoesOn (due_after format (with_names before list names) (next_list list))
+names_parsed format list before names are fine =
+    let known = with_names before list names in
+    ap (parse_names format list before) (canonical_names names) ∙ cond-false _ _ _ (ap not are) ∙ ap (λ o. unless_fault o (GoesOn (due_after format known (next_list list)))) fine
 
 names_line : (format : Format) (list : NameList) (before : PolicyNames) (names : Names) → list_all is_label_name names ≡ true → MakePolicy (with_names before list names) → IsShort (names_words (keyword_of list) names)
     → parse_line (at.Names format list before) (text_of (names_words (keyword_of list) names)) ≡ GoesOn (due_after format (with_names before list names) (next_list list))
 names_line format list before names are fine short =
-    let known = with_names before list names in
-    line_is (at.Names format list before) (keyword_of list) (map bare names) (names_begin list) (list_spelling list names are) short ∙ names_said format list before names ∙ ap (parse_names format list before) (canonical_names names)
-    ∙ cond-false _ _ _ (ap not are) ∙ ap (λ o. unless_fault o (GoesOn (due_after format known (next_list list)))) fine
+    line_is (at.Names format list before) (keyword_of list) (map bare names) (names_begin list) (list_spelling list names are) short ∙ names_said format list before names ∙ names_parsed format list before names are fine
+
+-- the line of grades, of which there are some
+grades_line : (format : Format) (policy : PolicyNames) (name : List ℕ) (names : Names) → list_all is_label_name (name ∷ names) ≡ true → MakePolicy (with_names policy Grades (name ∷ names))
+    → IsShort (names_words (keyword_of Grades) (name ∷ names))
+    → parse_line (at.Grades format policy) (text_of (names_words (keyword_of Grades) (name ∷ names))) ≡ GoesOn (at.Bound format (with_names policy Grades (name ∷ names)))
+unfolding parse_words
+grades_line format policy name names are fine short =
+    line_is (at.Grades format policy) (keyword_of Grades) (map bare (name ∷ names)) (names_begin Grades) (list_spelling Grades (name ∷ names) are) short ∙ names_parsed format Grades policy (name ∷ names) are fine
 
 -- a tree line is expected, after these objects and processes
 abbrev tree_at : Format → PolicyNames → CapSet → List WorldObject → List WorldProc → Expecting
 tree_at format policy bound objects procs = at.Tree (record { format = format; policy = policy; bound = bound; builder = record { objects = objects; procs = procs } })
 
-bound_line : (format : Format) (policy : PolicyNames) (bound : CapSet) → IsShort (names_words (codes "bound") (set_text bound ∷ []))
-    → parse_line (at.Bound format policy) (text_of (names_words (codes "bound") (set_text bound ∷ []))) ≡ GoesOn (tree_at format policy bound [] [])
+-- the line of the bound
+abbrev bound_words : CapSet → List LineWord
+bound_words bound = names_words (codes "bound") (set_text bound ∷ [])
+
+bound_line : (expecting : Expecting) (format : Format) (policy : PolicyNames) (bound : CapSet) → parse_words expecting (bound_words bound) ≡ parse_bound format policy (set_text bound ∷ []) → IsShort (bound_words bound)
+    → parse_line expecting (text_of (bound_words bound)) ≡ GoesOn (tree_at format policy bound [] [])
+bound_line expecting format policy bound says short =
+    line_is expecting (codes "bound") (bare (set_text bound) ∷ []) refl (and_from _ _ (bound_bare bound) refl) short
+    ∙ says ∙ ap (λ (v : WordValue CapSet). with_value v (λ bound. GoesOn (tree_at format policy bound [] []))) (bound_known bound)
+
+-- the bound comes after grades, or where they are due
+bound_said : (format : Format) (policy : PolicyNames) (bound : CapSet) → parse_words (at.Bound format policy) (bound_words bound) ≡ parse_bound format policy (set_text bound ∷ [])
 unfolding parse_words
-bound_line format policy bound short =
-    line_is (at.Bound format policy) (codes "bound") (bare (set_text bound) ∷ []) refl (and_from _ _ (bound_bare bound) refl) short
-    ∙ ap (λ (v : WordValue CapSet). with_value v (λ bound. GoesOn (tree_at format policy bound [] []))) (bound_known bound)
+bound_said format policy bound = refl
+
+no_grades_said : (format : Format) (policy : PolicyNames) (bound : CapSet) → parse_words (at.Grades format policy) (bound_words bound) ≡ parse_bound format policy (set_text bound ∷ [])
+unfolding parse_words
+no_grades_said format policy bound = refl
+
+abbrev policy_of : (levels cats grades : Names) → PolicyNames
+policy_of levels cats grades = record { levels = levels; cats = cats; grades = grades }
+
+-- after the lines of levels and categories, grades are due
+names_read : (format : Format) (levels cats : Names) (more : List (List LineWord)) → MakePolicy (policy_of levels cats []) → IsShort (names_words (codes "levels") levels) → IsShort (names_words (codes "categories") cats)
+    → reading 1 at.Format (written_pieces (names_words (codes "world") (format_word format ∷ []) ∷ names_words (codes "levels") levels ∷ names_words (codes "categories") cats ∷ more))
+    ≡ reading 4 (at.Grades format (policy_of levels cats [])) (written_pieces more)
+names_read format levels cats more h first second =
+    let policy = policy_of levels cats [] in
+    let known = policy_of levels [] [] in
+    let after_levels = names_words (codes "categories") cats ∷ more in
+    step_on 1 at.Format (at.Names format Levels no_names) (names_words (codes "world") (format_word format ∷ [])) (names_words (codes "levels") levels ∷ after_levels) (format_line format)
+    ∙ step_on 2 (at.Names format Levels no_names) (at.Names format Categories known) (names_words (codes "levels") levels) after_levels
+    (names_line format Levels no_names levels (policy_facts policy h Levels).named (levels_alone policy h) first)
+    ∙ step_on 3 (at.Names format Categories known) (at.Grades format policy) (names_words (codes "categories") cats) more
+    (names_line format Categories known cats (policy_facts policy h Categories).named h second)
 
 -- after the head lines, a tree line is expected
-head_read : (format : Format) (policy : PolicyNames) (bound : CapSet) (more : List (List LineWord)) → MakePolicy policy → IsShort (names_words (codes "levels") policy.levels)
-    → IsShort (names_words (codes "categories") policy.cats) → IsShort (names_words (codes "bound") (set_text bound ∷ []))
-    → reading 1 at.Format (written_pieces (head_words format policy bound ++ more)) ≡ reading 5 (tree_at format policy bound [] []) (written_pieces more)
-head_read format policy bound more h levels cats bounded =
-    let after_cats = names_words (codes "bound") (set_text bound ∷ []) ∷ more in
-    let after_levels = names_words (codes "categories") policy.cats ∷ after_cats in
-    let known = with_names no_names Levels policy.levels in
-    step_on 1 at.Format (at.Names format Levels no_names) (names_words (codes "world") (format_word format ∷ [])) (names_words (codes "levels") policy.levels ∷ after_levels) (format_line format)
-    ∙ step_on 2 (at.Names format Levels no_names) (at.Names format Categories known) (names_words (codes "levels") policy.levels) after_levels
-    (names_line format Levels no_names policy.levels (policy_facts policy h Levels).named (levels_alone policy h) levels)
-    ∙ step_on 3 (at.Names format Categories known) (at.Bound format policy) (names_words (codes "categories") policy.cats) after_cats
-    (names_line format Categories known policy.cats (policy_facts policy h Categories).named h cats)
-    ∙ step_on 4 (at.Bound format policy) (tree_at format policy bound [] []) (names_words (codes "bound") (set_text bound ∷ [])) more (bound_line format policy bound bounded)
+head_read : (format : Format) (levels cats grades : Names) (bound : CapSet) (more : List (List LineWord)) → MakePolicy (policy_of levels cats grades) → AllByRecursion IsShort (head_words format (policy_of levels cats grades) bound)
+    → reading 1 at.Format (written_pieces (head_words format (policy_of levels cats grades) bound ++ more))
+    ≡ reading (length (head_words format (policy_of levels cats grades) bound) + 1) (tree_at format (policy_of levels cats grades) bound [] []) (written_pieces more)
+head_read format levels cats [] bound more h short =
+    let policy = policy_of levels cats [] in
+    names_read format levels cats (bound_words bound ∷ more) h short.1.0 short.1.1.0
+    ∙ step_on 4 (at.Grades format policy) (tree_at format policy bound [] []) (bound_words bound) more (bound_line (at.Grades format policy) format policy bound (no_grades_said format policy bound) short.1.1.1.0)
+head_read format levels cats (name ∷ names) bound more h short =
+    let policy = policy_of levels cats (name ∷ names) in
+    let before = policy_of levels cats [] in
+    let grades = names_words (codes "grades") (name ∷ names) in
+    names_read format levels cats (grades ∷ bound_words bound ∷ more) (without_grades policy h) short.1.0 short.1.1.0
+    ∙ step_on 4 (at.Grades format before) (at.Bound format policy) grades (bound_words bound ∷ more) (grades_line format before name names (policy_facts policy h Grades).named h short.1.1.1.0)
+    ∙ step_on 5 (at.Bound format policy) (tree_at format policy bound [] []) (bound_words bound) more (bound_line (at.Bound format policy) format policy bound (bound_said format policy bound) short.1.1.1.1.0)
 
 -- ---- values that are there
 
@@ -390,10 +436,23 @@ processes_spelling : (policy : PolicyNames) (ps : List WorldProc) → MakePolicy
 processes_spelling policy [] h valid written = refl
 processes_spelling policy (p ∷ ps) h valid written = and_from _ _ (process_spelling policy p h valid.0 written.0) (processes_spelling policy ps h valid.1 written.1)
 
-head_spelling : (format : Format) (policy : PolicyNames) (bound : CapSet) → MakePolicy policy → list_all (list_all has_spelling) (head_words format policy bound) ≡ true
-head_spelling format policy bound h =
-    let named = λ (list : NameList). list_spelling list (names_of policy list) (policy_facts policy h list).named in
-    and_from _ _ (and_from _ _ (format_spelling format) refl) (and_from _ _ (named Levels) (and_from _ _ (named Categories) (and_from _ _ (and_from _ _ (bound_bare bound) refl) refl)))
+head_spelling : (format : Format) (levels cats grades : Names) (bound : CapSet) → MakePolicy (policy_of levels cats grades) → list_all (list_all has_spelling) (head_words format (policy_of levels cats grades) bound) ≡ true
+head_spelling format levels cats grades bound h = by_grades grades h
+  where
+    last : list_all (list_all has_spelling) (bound_words bound ∷ []) ≡ true
+    last = and_from _ _ (and_from _ _ (bound_bare bound) refl) refl
+
+    first : (grades : Names) (more : List (List LineWord)) → MakePolicy (policy_of levels cats grades) → list_all (list_all has_spelling) more ≡ true
+        → list_all (list_all has_spelling) (names_words (codes "world") (format_word format ∷ []) ∷ names_words (codes "levels") levels ∷ names_words (codes "categories") cats ∷ more) ≡ true
+    first grades more h rest =
+        let facts = policy_facts (policy_of levels cats grades) h in
+        and_from _ _ (and_from _ _ (format_spelling format) refl) (and_from _ _ (list_spelling Levels levels (facts Levels).named) (and_from _ _ (list_spelling Categories cats (facts Categories).named) rest))
+
+    by_grades : (grades : Names) → MakePolicy (policy_of levels cats grades) → list_all (list_all has_spelling) (head_words format (policy_of levels cats grades) bound) ≡ true
+    by_grades [] h = first [] (bound_words bound ∷ []) h last
+    by_grades (name ∷ names) h =
+        let named = (policy_facts (policy_of levels cats (name ∷ names)) h Grades).named in
+        first (name ∷ names) (names_words (codes "grades") (name ∷ names) ∷ bound_words bound ∷ []) h (and_from _ _ (list_spelling Grades (name ∷ names) named) last)
 
 some_objects : (os : List WorldObject) (first : WorldObject) (others : List WorldObject) → os ≡ first ∷ others → (length os == 0) ≡ false
 some_objects [] first others e = absurd (cc)
@@ -404,13 +463,13 @@ pub written_round_trip : (w : WorldText) → CanBeRead w → read_text (written 
 unfolding written
 written_round_trip w h =
     ap (reading 1 at.Format) (pieces_round_trip (lines_of w) canonical)
-    ∙ head_read One w.policy w.world.bound (map (object_words w.policy) w.world.objects ++ (map (process_words w.policy) w.world.procs ++ script_words ∷ [])) h.policy h.lines.1.0 h.lines.1.1.0 h.lines.1.1.1.0
-    ∙ steps_on (object_words w.policy) (λ os. tree_at One w.policy w.world.bound os []) 5 [] w.world.objects (map (process_words w.policy) w.world.procs ++ script_words ∷ [])
+    ∙ head_read One w.policy.levels w.policy.cats w.policy.grades w.world.bound (map (object_words w.policy) w.world.objects ++ (map (process_words w.policy) w.world.procs ++ script_words ∷ [])) h.policy parts.0
+    ∙ steps_on (object_words w.policy) (λ os. tree_at One w.policy w.world.bound os []) first [] w.world.objects (map (process_words w.policy) w.world.procs ++ script_words ∷ [])
     (tree_adds One w.policy w.world.bound w.world.objects h.is.world.first h.is.world.others h.policy h.is.world.objects_are h.is.world.no_names h.is.world.root_body h.is.world.root_label h.is.world.others_placed
     objects_valid written (objects_plain w.world.top w.world.objects h.is.world.objects) tails.0 h.is.world.room.objects)
-    ∙ steps_on (process_words w.policy) (tree_at One w.policy w.world.bound w.world.objects) (5 + length w.world.objects) [] w.world.procs (script_words ∷ [])
+    ∙ steps_on (process_words w.policy) (tree_at One w.policy w.world.bound w.world.objects) (first + length w.world.objects) [] w.world.procs (script_words ∷ [])
     (processes_add One w.policy w.world.bound w.world.objects [] w.world.procs h.policy some procs_valid owned (procs_within w.world.top w.world.procs h.is.world.procs) ends.0 h.is.world.room.procs)
-    ∙ step_last (5 + length w.world.objects + length w.world.procs) (tree_at One w.policy w.world.bound w.world.objects w.world.procs) world script_words (script_line One w.policy w.world.bound w.world.objects w.world.procs some)
+    ∙ step_last (first + length w.world.objects + length w.world.procs) (tree_at One w.policy w.world.bound w.world.objects w.world.procs) world script_words (script_line One w.policy w.world.bound w.world.objects w.world.procs some)
     ∙ (λ i. Accepted (world_is i) (number i) ([] ∷ []))
   where
     objects_valid : AllByRecursion (λ (o : WorldObject). is_valid w.policy o.label ≡ true) w.world.objects
@@ -428,8 +487,18 @@ written_round_trip w h =
     some : (length w.world.objects == 0) ≡ false
     some = some_objects w.world.objects h.is.world.first h.is.world.others h.is.world.objects_are
 
+    head : List (List LineWord)
+    head = head_words One w.policy w.world.bound
+
+    -- the number of the line after the head
+    first : ℕ
+    first = length head + 1
+
+    parts : AllByRecursion IsShort head × AllByRecursion IsShort (map (object_words w.policy) w.world.objects ++ (map (process_words w.policy) w.world.procs ++ script_words ∷ []))
+    parts = all_parts IsShort head (map (object_words w.policy) w.world.objects ++ (map (process_words w.policy) w.world.procs ++ script_words ∷ [])) h.lines
+
     tails : AllByRecursion IsShort (map (object_words w.policy) w.world.objects) × AllByRecursion IsShort (map (process_words w.policy) w.world.procs ++ script_words ∷ [])
-    tails = all_parts IsShort (map (object_words w.policy) w.world.objects) (map (process_words w.policy) w.world.procs ++ script_words ∷ []) h.lines.1.1.1.1
+    tails = all_parts IsShort (map (object_words w.policy) w.world.objects) (map (process_words w.policy) w.world.procs ++ script_words ∷ []) parts.1
 
     ends : AllByRecursion IsShort (map (process_words w.policy) w.world.procs) × AllByRecursion IsShort (script_words ∷ [])
     ends = all_parts IsShort (map (process_words w.policy) w.world.procs) (script_words ∷ []) tails.1
@@ -438,7 +507,7 @@ written_round_trip w h =
     canonical =
         let objects = map (object_words w.policy) w.world.objects in
         let procs = map (process_words w.policy) w.world.procs in
-        list_all-append (list_all has_spelling) (head_words One w.policy w.world.bound) (objects ++ (procs ++ script_words ∷ [])) ∙ and_from _ _ (head_spelling One w.policy w.world.bound h.policy)
+        list_all-append (list_all has_spelling) (head_words One w.policy w.world.bound) (objects ++ (procs ++ script_words ∷ [])) ∙ and_from _ _ (head_spelling One w.policy.levels w.policy.cats w.policy.grades w.world.bound h.policy)
         (list_all-append (list_all has_spelling) objects (procs ++ script_words ∷ []) ∙ and_from _ _ (objects_spelling w.policy w.world.objects h.policy objects_valid written)
         (list_all-append (list_all has_spelling) procs (script_words ∷ []) ∙ and_from _ _ (processes_spelling w.policy w.world.procs h.policy procs_valid owned) refl))
 
@@ -448,7 +517,7 @@ written_round_trip w h =
     world_is : world ≡ w
     world_is = ap (λ (top : Label). record { policy = w.policy; world = record { top = top; bound = w.world.bound; objects = w.world.objects; procs = w.world.procs } }) (sym h.is.top)
 
-    number : 5 + length w.world.objects + length w.world.procs + 1 ≡ next_number w
+    number : first + length w.world.objects + length w.world.procs + 1 ≡ next_number w
     number =
         let objects = map (object_words w.policy) w.world.objects in
         let procs = map (process_words w.policy) w.world.procs in
@@ -456,4 +525,5 @@ written_round_trip w h =
         let two = length-map w.world.procs (process_words w.policy) in
         let three = length-append objects (procs ++ script_words ∷ []) in
         let four = length-append procs (script_words ∷ []) in
+        let five = length-append head (objects ++ (procs ++ script_words ∷ [])) in
         omega arith

@@ -3,8 +3,9 @@ use Rattle.std.specs.Prelude.{◌≡◌, ℕ, ◌==◌, ◌&&◌, not, nat_lt, B
 use Rattle.fs_path.specs.declared.words.LineWord.{LineWord}
 use Rattle.fs_path.specs.Words.{words_of, is_blank}
 use Rattle.lab_text.specs.Lists.{keyword_of as list_keyword}
+use Rattle.lab_text.specs.declared.lists.NameList.TheVariants.{Grades}
 use Rattle.lab_text.specs.Names.{Names, same_bytes}
-use Rattle.lab_text.specs.Policy.{top_of}
+use Rattle.lab_text.specs.Policy.{PolicyNames, top_of}
 use Rattle.fs_path.specs.declared.words.TheConstants.{MAX_LINE}
 use Rattle.kern_model.specs.declared.objects.Body.TheVariants as body
 use Rattle.line_text.specs.declared.fault.LineFault.{LineFault}
@@ -14,6 +15,7 @@ use Rattle.world_text.specs.declared.expecting.Expecting.TheVariants as at
 use Rattle.world_text.specs.declared.expecting.PartialWorld.{PartialWorld}
 use Rattle.world_text.specs.declared.expecting.Parsed.{Parsed}
 use Rattle.world_text.specs.declared.expecting.Parsed.TheVariants.{Refuses, GoesOn, Begins}
+use Rattle.world_text.specs.declared.format.Format.{Format}
 use Rattle.world_text.specs.declared.keyword.Keyword.{Keyword}
 use Rattle.world_text.specs.declared.keyword.Keyword.TheVariants as key
 use Rattle.world_text.specs.declared.world.WorldText.{WorldText}
@@ -31,6 +33,15 @@ world_of w = record { policy = w.policy; world = record { top = top_of w.policy;
 abbrev pub after_keyword : List ℕ → List LineWord → Option Names
 after_keyword keyword [] = None
 after_keyword keyword (w ∷ ws) = cond (not w.quoted && same_bytes w.bytes keyword) (Some (bytes_in ws)) None
+
+-- `bound SET`
+abbrev pub parse_bound_line : Format → PolicyNames → List LineWord → Parsed
+parse_bound_line format policy ws = with_form (after_keyword (codes "bound") ws) (parse_bound format policy)
+
+-- `grades NAME ...` by the names after the keyword; a line without them has to be that of the bound
+abbrev pub parse_grades : Format → PolicyNames → Option Names → List LineWord → Parsed
+parse_grades format policy (Some (name ∷ names)) ws = parse_names format Grades policy (name ∷ names)
+parse_grades format policy _ ws = parse_bound_line format policy ws
 
 -- `script`, once the root is there
 abbrev pub parse_script : PartialWorld → Names → Parsed
@@ -54,7 +65,8 @@ parse_tree_line w (first ∷ ws) = with_form (keyword_of first) (λ keyword. par
 unfoldable pub parse_words : Expecting → List LineWord → Parsed
 parse_words at.Format ws = with_form (after_keyword (codes "world") ws) parse_format
 parse_words (at.Names format list names) ws = with_form (after_keyword (list_keyword list) ws) (parse_names format list names)
-parse_words (at.Bound format policy) ws = with_form (after_keyword (codes "bound") ws) (parse_bound format policy)
+parse_words (at.Grades format policy) ws = parse_grades format policy (after_keyword (list_keyword Grades) ws) ws
+parse_words (at.Bound format policy) ws = parse_bound_line format policy ws
 parse_words (at.Tree w) ws = parse_tree_line w ws
 
 -- what a line says: one that is too long is refused, a blank one changes nothing, and else its words decide

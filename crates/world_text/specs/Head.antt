@@ -7,7 +7,7 @@ use Rattle.lab_text.specs.Lists.{next_list}
 use Rattle.lab_text.specs.Names.{Names, is_label_name}
 use Rattle.lab_text.specs.Policy.{PolicyNames, with_names, no_names, names_fault}
 use Rattle.lab_text.specs.declared.lists.NameList.{NameList}
-use Rattle.lab_text.specs.declared.lists.NameList.TheVariants.{Levels}
+use Rattle.lab_text.specs.declared.lists.NameList.TheVariants.{Levels, Grades}
 use Rattle.line_text.specs.declared.fault.LineFault.{LineFault}
 use Rattle.line_text.specs.declared.fault.LineFault.TheVariants.{Syntax, Repeated, TooMany}
 use Rattle.world_text.specs.declared.expecting.Expecting.{Expecting}
@@ -37,8 +37,9 @@ abbrev pub unless_fault : Option PolicyError → Parsed → Parsed
 unless_fault None parsed = parsed
 unless_fault (Some e) parsed = Refuses (fault_for e)
 
--- what is due after names: those of the next list, or the bound
+-- what is due after names: those of the next list, or the bound; grades may be left out
 abbrev pub due_after : Format → PolicyNames → Option NameList → Expecting
+due_after format names (Some Grades) = at.Grades format names
 due_after format names (Some list) = at.Names format list names
 due_after format names None = at.Bound format names
 

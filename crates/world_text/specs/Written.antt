@@ -9,11 +9,10 @@ use Rattle.fs_path.specs.declared.words.LineWord.{LineWord}
 use Rattle.fs_path.specs.Name.{Name}
 use Rattle.fs_path.specs.Values.{mode_text, groups_text}
 use Rattle.fs_path.specs.Words.{with_quotes_if_needed, spelling, line_text}
-use Rattle.lab_text.specs.Lists.{all_lists}
 use Rattle.lab_text.specs.Names.{same_bytes}
 use Rattle.lab_text.specs.Policy.{PolicyNames}
 use Rattle.lab_text.specs.Text.{label_text}
-use Rattle.line_text.specs.Words.{list_words}
+use Rattle.line_text.specs.Words.{names_lines}
 use Rattle.kern_model.specs.declared.objects.Body.{Body}
 use Rattle.kern_model.specs.declared.objects.Body.TheVariants as body
 use Rattle.kern_model.specs.declared.world.WorldObject.{WorldObject}
@@ -51,7 +50,7 @@ names_words keyword names = bare keyword ∷ map bare names
 -- the format, the names and the bound
 abbrev pub head_words : Format → PolicyNames → CapSet → List (List LineWord)
 head_words format policy bound =
-    names_words (codes "world") (format_word format ∷ []) ∷ (map (λ list. map bare (list_words policy list)) all_lists ++ names_words (codes "bound") (set_text bound ∷ []) ∷ [])
+    names_words (codes "world") (format_word format ∷ []) ∷ (map (map bare) (names_lines policy) ++ names_words (codes "bound") (set_text bound ∷ []) ∷ [])
 
 -- the keyword of an object; no tree line makes a pipe
 abbrev pub body_keyword : Body → List ℕ

@@ -1,6 +1,8 @@
 // What each line of a world says, by which line is due.
 ghost use Rattle.std.specs.Prelude.{◌≡◌, IfOk, MatchOption, None, Some};
-ghost use Rattle.world_text.specs.Expecting.{HasFaultOfWorld, world_of, after_keyword, parse_script, parse_tree_line, parse_words, parse_line};
+ghost use Rattle.lab_text.specs.Lists.{keyword_of};
+ghost use Rattle.lab_text.specs.declared.lists.NameList.TheVariants.{Grades};
+ghost use Rattle.world_text.specs.Expecting.{HasFaultOfWorld, world_of, after_keyword, parse_bound_line, parse_grades, parse_script, parse_tree_line, parse_words, parse_line};
 ghost use Rattle.world_text.specs.Processes.{parse_process};
 ghost use Rattle.world_text.specs.TreeLines.{parse_object};
 ghost use Rattle.world_text.specs.Values.{bytes_in};
@@ -27,6 +29,8 @@ pub enum Expecting {
     Format,
     /// The names of a list, after these of the lists before it, in a world of this format.
     Names(Format, NameList, PolicyNames),
+    /// The names of the grades, or the bound of a world that has none, after the names of this policy.
+    Grades(Format, Policy),
     /// The bound, after the names of this policy.
     Bound(Format, Policy),
     /// A tree line, a process or the beginning of the script, after this part of the world.
@@ -38,7 +42,8 @@ impl Drop for Expecting {
     fn drop(self) {
         match self {
             Expecting::Format => {}
-            Expecting::Names(_, _, _) | Expecting::Bound(_, _) | Expecting::Tree(_) => {}
+            Expecting::Names(_, _, _) | Expecting::Grades(_, _) => {}
+            Expecting::Bound(_, _) | Expecting::Tree(_) => {}
         }
     }
 }
@@ -155,6 +160,37 @@ fn after_keyword<'a, 'w>(keyword: &[u8], words: &'a [LineWord<'w>]) -> Option<&'
     Some(rest)
 }
 
+// `bound SET`.
+fn parse_bound_line(alloc: Global, format: Format, policy: Policy, words: &[LineWord<'_>]) -> Parsed
+    ensures { result ≡ parse_bound_line format policy words.now }
+{
+    match after_keyword(b"bound", words) {
+        Some(words) => parse_bound(alloc, format, policy, words),
+        None => syntax(),
+    }
+}
+
+// `grades NAME ...`, or `bound SET` of a world without grades.
+fn parse_grades_line(
+    alloc: Global,
+    format: Format,
+    policy: Policy,
+    words: &[LineWord<'_>],
+) -> Result<Parsed, NoMemory>
+    ensures { IfOk result (λ parsed. parsed ≡ parse_grades format policy (after_keyword (keyword_of Grades) words.now) words.now) }
+{
+    match after_keyword(NameList::Grades.keyword(), words) {
+        Some(names) if !names.is_empty() => parse_names(
+            alloc,
+            format,
+            NameList::Grades,
+            policy.into_names(),
+            names,
+        ),
+        _ => Ok(parse_bound_line(alloc, format, policy, words)),
+    }
+}
+
 // `script`.
 fn parse_script(so_far: PartialWorld, words: &[LineWord<'_>]) -> Parsed
     ensures { result ≡ parse_script so_far (bytes_in words.now) }
@@ -201,10 +237,8 @@ impl Expecting {
                 Some(words) => parse_names(alloc, format, list, names, words),
                 None => Ok(syntax()),
             },
-            Expecting::Bound(format, policy) => match after_keyword(b"bound", words) {
-                Some(words) => Ok(parse_bound(alloc, format, policy, words)),
-                None => Ok(syntax()),
-            },
+            Expecting::Grades(format, policy) => parse_grades_line(alloc, format, policy, words),
+            Expecting::Bound(format, policy) => Ok(parse_bound_line(alloc, format, policy, words)),
             Expecting::Tree(so_far) => parse_tree_line(alloc, so_far, words),
         }
     }

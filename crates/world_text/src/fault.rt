@@ -14,11 +14,11 @@ pub enum WorldError {
     /// process that are not permitted, or the text ends at it.
     #[error("line {0} is too long or not of the form that is due there")]
     Syntax(u64),
-    /// A level, a category or a capability is unknown.
-    #[error("line {0} names an unknown level, category or capability")]
+    /// A level, a category, a grade or a capability is unknown.
+    #[error("line {0} names an unknown level, category, grade or capability")]
     UnknownName(u64),
-    /// A level or a category is named twice, or the path was given before.
-    #[error("line {0} names a level or a category twice, or gives a path again")]
+    /// A level, a category or a grade is named twice, or the path was given before.
+    #[error("line {0} names a level, a category or a grade twice, or gives a path again")]
     Repeated(u64),
     /// The path's directory was not given or is no directory, or the root was not given.
     #[error("line {0} stands in no directory that was given")]
@@ -29,7 +29,7 @@ pub enum WorldError {
     /// The root is no directory, or its label is not the lowest.
     #[error("line {0} gives a root that is no directory of the lowest label")]
     RootLabel(u64),
-    /// There are more than 16 levels, 64 categories, 65,535 objects of a label or 4,095 processes of a label.
+    /// There are more than 16 levels, 64 categories, 16 grades, 65,535 objects of a label or 4,095 processes of a label.
     #[error("line {0} has or gives more than there may be")]
     TooMany(u64),
     /// Memory ran out.

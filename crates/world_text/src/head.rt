@@ -59,6 +59,7 @@ fn due_after(format: Format, list: NameList, names: PolicyNames) -> Expecting
     ensures { result ≡ due_after format names (next_list list) }
 {
     match list.next() {
+        Some(NameList::Grades) => Expecting::Grades(format, names.into_policy()),
         Some(next) => Expecting::Names(format, next, names),
         None => Expecting::Bound(format, names.into_policy()),
     }

@@ -2,7 +2,7 @@
 use kern_model::World;
 use lab_text::Policy;
 
-/// A world, and the names that it gives to levels and categories.
+/// A world, and the names that it gives to levels, categories and grades.
 #[derive(Debug, Drop)]
 pub struct WorldText {
     pub policy: Policy,

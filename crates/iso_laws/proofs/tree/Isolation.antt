@@ -27,7 +27,7 @@ use Rattle.kern_model.specs.Row.{Row}
 use Rattle.kern_model.specs.Rules.{of_object, created_order, held_order, mac_write_of, dac_read_of, dac_write_of}
 use Rattle.kern_model.specs.Stat.{stat_of, tell_stat}
 use Rattle.kern_model.specs.State.{State, Process, SetEntry, DropEntry, next_object, look}
-use Rattle.kern_model.specs.TreeRows.{chdir_row, stand_in, readdir_row, list_names, stat_row, rmdir_row, remove_dir, unlink_row, remove_name, drop_entry, old_entry_found, old_entry, make_row, make_object, mkdir_row, mkfifo_row, new_spot_found, new_spot, link_row, has_name_left, add_name, add_entry, rename_row, target_found, target_entry, may_replace, if_moves, give_way, move_row, move_over, move_to}
+use Rattle.kern_model.specs.TreeRows.{chdir_row, change_directory, readdir_row, list_names, stat_row, rmdir_row, remove_dir, unlink_row, remove_name, drop_entry, old_entry_found, old_entry, make_row, make_object, mkdir_row, mkfifo_row, new_spot_found, new_spot, link_row, has_name_left, add_name, add_entry, rename_row, target_found, target_entry, may_replace, if_moves, give_way, move_row, move_over, move_to}
 use Rattle.kern_model.specs.Valid.{IsValid, IsThere, IsDir}
 use Rattle.kern_model.specs.Walk.{Found, Start, Entry, last_place, dir_place}
 use Rattle.iso_laws.proofs.LowRows.{caller_visible, low_check, low_read, low_write, low_answer}
@@ -58,8 +58,8 @@ module _ (l : Label) (s : State) (kept : Kept l s) (valid : IsValid s) (who : Pi
   pub chdir_low : (path : PathValue) → SameInPart l s who p (chdir_row s who p path) (chdir_row part_s who p path)
   chdir_low path =
       in_part_reach l s kept valid who p is_low is (λ n. First n) path _ _
-      (λ id there. in_part_enter l s kept valid who p is_low id there (last_place (λ n. First n) path) (stand_in who p id) (stand_in who p)
-      (λ _ _. in_part_itself l s who p (stand_in who p id) (caller_visible l s kept valid who p is is_low _)))
+      (λ id there. in_part_enter l s kept valid who p is_low id there (last_place (λ n. First n) path) (change_directory who p id) (change_directory who p)
+      (λ _ _. in_part_itself l s who p (change_directory who p id) (caller_visible l s kept valid who p is is_low _)))
 
   -- ---- directories that are written
   -- a Low directory may be written, and the check of the order of labels is the same in the part

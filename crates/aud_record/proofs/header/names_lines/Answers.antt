@@ -1,12 +1,11 @@
-use Rattle.std.proofs.Common.{Ok, [], ◌∷◌, ap, sym, ◌∙◌, arith}
+use Rattle.std.proofs.Common.{Ok, ap, sym, ◌∙◌, arith}
 use Rattle.lab_text.specs.Policy.{PolicyNames, no_names}
-use Rattle.lab_text.specs.declared.lists.NameList.TheVariants.{Levels, Categories}
 use Rattle.aud_record.proofs.HeaderLines.{line_read, line_fails, lines_read, names_made, handed_on}
 use Rattle.aud_record.proofs.header.names_lines.Goals as goal
 
 pub loop-place-preserved : goal.loop-place-preserved
 loop-place-preserved c = record {
-  lines = line_read c.loop-place.place _ c.loop-place.names c.names_line.new.names c.loop-place.rest.now c.in_ok-rest.rest.now _ c.loop-place-test.true c.loop-place.invariant.lines c.in_ok-rest.ensures.line;
+  lines = line_read c.loop-place.place _ c.loop-place.names c.list_line.new.names c.loop-place.rest.now c.in_ok-rest.rest.now _ c.loop-place-test.true c.loop-place.invariant.lines c.in_ok-rest.ensures.line;
   shorter = let before = c.loop-place.invariant.shorter in let line = c.in_ok-rest.ensures.shorter in omega arith;
 }
 
@@ -17,7 +16,7 @@ returns-in_err-rest-clause-lines c =
 
 pub into_policy-requires : goal.into_policy-requires
 into_policy-requires c =
-    names_made 2 Levels (Categories ∷ []) no_names c.loop-place.names c.args.text.now c.loop-place.rest.now (lines_read c.loop-place.place c.loop-place.names c.loop-place.rest.now _ c.loop-place-test.false c.loop-place.invariant.lines)
+    names_made 2 no_names c.loop-place.names c.args.text.now c.loop-place.rest.now (lines_read c.loop-place.place c.loop-place.names c.loop-place.rest.now _ c.loop-place-test.false c.loop-place.invariant.lines)
 
 pub returns-clause-lines : goal.returns-clause-lines
 returns-clause-lines c =

@@ -1,11 +1,7 @@
-use Rattle.std.proofs.Common.{ap, sym, ◌∙◌, ◌≡◌, ◌+◌, ◌-◌, ◌/◌, arith}
-use Rattle.std.specs.declared.cmp.Ordering.TheVariants.{Less, Greater}
-use Rattle.std.proofs.lemmas.Cmp.{nat_list_cmp_total}
-use Rattle.fs_dirs.specs.Directory.{name_cmp}
-use Rattle.fs_dirs.specs.declared.slot.Slot.{Slot}
+use Rattle.std.proofs.Common.{◌+◌, ◌-◌, ◌/◌, arith}
 use Rattle.fs_dirs.proofs.HeadLemmas.{less_by_head, greater_by_head}
-use Rattle.fs_dirs.proofs.Sorted.{holds_at, less_upto, greater_from}
 use Rattle.fs_dirs.proofs.Halving.{halved, few, few_with}
+use Rattle.fs_dirs.proofs.Names.{between_after, between_before}
 use Rattle.fs_dirs.proofs.directory.search.Goals as goal
 
 -- the name belongs after the middle
@@ -14,31 +10,23 @@ loop-low-preserved-in-Less g c =
     let inv = c.loop-low.invariant in
     let low = c.loop-low.low in
     let high = c.loop-low.high in
-    let es = c.args.entries.now in
     let name = c.args.name.now in
-    let middle = low + (high - low) / 2 in
     let there = c.item.result.now in
-    let lesser : name_cmp there.entry.value.name name ≡ Less = less_by_head there.head c.of-head.result there.entry.value.name name there.head_is c.of-head.ensures.head c.of-head.ensures.bytes c.in-Less.ensures.order in
+    let lesser = less_by_head there.head c.of-head.result there.entry.value.name name there.head_is c.of-head.ensures.head c.of-head.ensures.bytes c.in-Less.ensures.order in
+    let most = few c.args.steps.now c.loop-low.steps c.compare.new.steps (high - low) _ inv.counted c.in-Less.ensures.counted inv.halved (omega arith) in
     record {
-      between = record {
-        ordered = omega arith;
-        within = inv.between.within;
-        less = less_upto (λ (e : Slot). (e.entry.value.name, e.entry.value.id)) nat_list_cmp_total es name middle c.requires (omega arith) (holds_at (λ (e : Slot). name_cmp e.entry.value.name name ≡ Less) es middle there (omega arith) (ap (λ (e : Slot). name_cmp e.entry.value.name name) (sym c.item.ensures) ∙ lesser));
-        greater = inv.between.greater;
-      };
+      between = between_after c.args.entries.now c.requires name low high inv.between (low + (high - low) / 2) (omega arith) (omega arith) there c.item.ensures lesser;
       counted = omega arith;
-      halved = halved c.args.steps.now c.loop-low.steps c.compare.new.steps (high - low) _ inv.counted c.in-Less.ensures.counted inv.halved (high - (middle + 1)) (omega arith);
-      few = (let most = few c.args.steps.now c.loop-low.steps c.compare.new.steps (high - low) _ inv.counted c.in-Less.ensures.counted inv.halved (omega arith) in omega (arith, most));
+      halved = halved c.args.steps.now c.loop-low.steps c.compare.new.steps (high - low) _ inv.counted c.in-Less.ensures.counted inv.halved _ (omega arith);
+      few = omega (arith, most);
     }
 
 -- its head is that of the middle
 pub returns-in-Equal-clause-counted : goal.returns-in-Equal-clause-counted
 returns-in-Equal-clause-counted g c =
     let inv = c.loop-low.invariant in
-    let low = c.loop-low.low in
-    let high = c.loop-low.high in
     let rest = c.search_by_names.ensures in
-    let most = few_with c.args.steps.now c.loop-low.steps c.compare.new.steps (high - low) _ inv.counted c.in-Equal.ensures.counted inv.halved c.search_by_names.new.steps rest.least rest.few in
+    let most = few_with c.args.steps.now c.loop-low.steps c.compare.new.steps (c.loop-low.high - c.loop-low.low) _ inv.counted c.in-Equal.ensures.counted inv.halved c.search_by_names.new.steps rest.least rest.few in
     record {
       steps = c.search_by_names.new.steps - c.args.steps.now;
       counted = omega arith;
@@ -49,21 +37,13 @@ returns-in-Equal-clause-counted g c =
 pub loop-low-preserved : goal.loop-low-preserved
 loop-low-preserved g c =
     let inv = c.loop-low.invariant in
-    let low = c.loop-low.low in
-    let high = c.loop-low.high in
-    let es = c.args.entries.now in
-    let name = c.args.name.now in
-    let middle = low + (high - low) / 2 in
+    let left = c.loop-low.high - c.loop-low.low in
     let there = c.item.result.now in
-    let larger : name_cmp there.entry.value.name name ≡ Greater = greater_by_head there.head c.of-head.result there.entry.value.name name there.head_is c.of-head.ensures.head there.bytes c.in-Greater.ensures.order in
+    let larger = greater_by_head there.head c.of-head.result there.entry.value.name c.args.name.now there.head_is c.of-head.ensures.head there.bytes c.in-Greater.ensures.order in
+    let most = few c.args.steps.now c.loop-low.steps c.compare.new.steps left _ inv.counted c.in-Greater.ensures.counted inv.halved (omega arith) in
     record {
-      between = record {
-        ordered = omega arith;
-        within = omega arith;
-        less = inv.between.less;
-        greater = greater_from (λ (e : Slot). (e.entry.value.name, e.entry.value.id)) nat_list_cmp_total es name middle c.requires (holds_at (λ (e : Slot). name_cmp e.entry.value.name name ≡ Greater) es middle there (omega arith) (ap (λ (e : Slot). name_cmp e.entry.value.name name) (sym c.item.ensures) ∙ larger));
-      };
+      between = between_before c.args.entries.now c.requires c.args.name.now c.loop-low.low c.loop-low.high inv.between (c.loop-low.low + left / 2) (omega arith) (omega arith) there c.item.ensures larger;
       counted = omega arith;
-      halved = halved c.args.steps.now c.loop-low.steps c.compare.new.steps (high - low) _ inv.counted c.in-Greater.ensures.counted inv.halved (middle - low) (omega arith);
-      few = (let most = few c.args.steps.now c.loop-low.steps c.compare.new.steps (high - low) _ inv.counted c.in-Greater.ensures.counted inv.halved (omega arith) in omega (arith, most));
+      halved = halved c.args.steps.now c.loop-low.steps c.compare.new.steps left _ inv.counted c.in-Greater.ensures.counted inv.halved _ (omega arith);
+      few = omega (arith, most);
     }

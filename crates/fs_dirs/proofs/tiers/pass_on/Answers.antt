@@ -1,34 +1,26 @@
-use Rattle.std.proofs.Common.{◌≡◌, ◌++◌, ◌+◌, ◌∷◌, ◌∙◌, ap, subst, sym, arith, add-one, refl}
+use Rattle.std.proofs.Common.{◌≡◌, ◌++◌, ◌+◌, ◌∷◌, ◌∙◌, ap, subst, sym, arith, add-one, refl, set}
 use Rattle.std.specs.Prelude.{Option, MatchOption, option_to_list}
-use Rattle.std.proofs.lemmas.List.{get_or-set_other}
+use Rattle.std.proofs.lemmas.List.{get_or-set_other, length-set}
 use Rattle.fs_dirs.specs.Tiers.{Tier}
-use Rattle.fs_dirs.proofs.TierLemmas.{same_together, up_together, room_before}
+use Rattle.fs_dirs.proofs.TierLemmas.{same_together, up_together, spare_before}
 use Rattle.fs_dirs.proofs.tiers.pass_on.Goals as goal
 
-pub returns-clause-same : goal.returns-clause-same
-returns-clause-same g c =
+pub returns : goal.returns
+returns g c =
     let ts = c.args.tiers.now.items in
     let items = λ (t : Tier g.row.T.Denot). t.items in
+    let left = c.pop_back.new.self in
     let popped = c.index_mut.result.now in
     let next = c.index_mut-2.result.now in
     let item = c.unwrap-item.result in
     let within = c.requires.within in
-    let shorter = sym (ap items c.index_mut.ensures.value) ∙ c.pop_back.ensures.items ∙ ap (λ (r : Option g.row.T.Denot). c.pop_back.new.self.items ++ option_to_list r) c.unwrap-item.ensures in
-    let read = c.index_mut-2.ensures.value ∙ get_or-set_other ts c.args.tier (c.args.tier + 1) c.pop_back.new.self next (λ e. omega arith) in
+    let shorter = sym (ap items c.index_mut.ensures.value) ∙ c.pop_back.ensures.items ∙ ap (λ (r : Option g.row.T.Denot). left.items ++ option_to_list r) c.unwrap-item.ensures in
+    let read = c.index_mut-2.ensures.value ∙ get_or-set_other ts c.args.tier (c.args.tier + 1) left next (λ e. omega arith) in
     let longer = c.push_front_reserved.ensures.items ∙ ap (λ (t : Tier g.row.T.Denot). item ∷ t.items) read in
-    same_together items ts c.args.tier (c.args.tier + 1) c.pop_back.new.self c.push_front_reserved.new.self popped next (add-one _) within
-    (up_together _ _ c.pop_back.new.self.items c.push_front_reserved.new.self.items item shorter longer)
-
-pub returns-clause-room : goal.returns-clause-room
-returns-clause-room g c =
-    let ts = c.args.tiers.now.items in
-    let items = λ (t : Tier g.row.T.Denot). t.items in
-    let popped = c.index_mut.result.now in
-    let next = c.index_mut-2.result.now in
-    let item = c.unwrap-item.result in
-    let shorter = sym (ap items c.index_mut.ensures.value) ∙ c.pop_back.ensures.items ∙ ap (λ (r : Option g.row.T.Denot). c.pop_back.new.self.items ++ option_to_list r) c.unwrap-item.ensures in
-    let read = c.index_mut-2.ensures.value ∙ get_or-set_other ts c.args.tier (c.args.tier + 1) c.pop_back.new.self next (λ e. omega arith) in
-    let longer = c.push_front_reserved.ensures.items ∙ ap (λ (t : Tier g.row.T.Denot). item ∷ t.items) read in
-    let one = subst (λ (r : Option g.row.T.Denot). MatchOption r ((popped.len ≡ 0) × (c.pop_back.new.self.len ≡ 0)) (λ _. c.pop_back.new.self.len + 1 ≡ popped.len)) c.unwrap-item.ensures c.pop_back.ensures.cases in
+    let one = subst (λ (r : Option g.row.T.Denot). MatchOption r ((popped.len ≡ 0) × (left.len ≡ 0)) (λ _. left.len + 1 ≡ popped.len)) c.unwrap-item.ensures c.pop_back.ensures.cases in
     let small = popped.small in
-    room_before ts c.args.tier (c.args.tier + 1) c.pop_back.new.self c.push_front_reserved.new.self popped next item refl c.requires shorter longer (omega arith)
+    record {
+      same = same_together items ts c.args.tier (c.args.tier + 1) left c.push_front_reserved.new.self popped next (add-one _) within (up_together _ _ left.items c.push_front_reserved.new.self.items item shorter longer);
+      length = length-set (set ts c.args.tier left) (c.args.tier + 1) c.push_front_reserved.new.self ∙ length-set ts c.args.tier left;
+      spare = spare_before ts c.args.tier (c.args.tier + 1) left c.push_front_reserved.new.self popped next item refl c.requires shorter longer (omega arith);
+    }

@@ -18,10 +18,10 @@ booted c made =
     let s = state_of h in
     let p = starting c.in_ok-creds_from.field-0 c.root_directory.result in
     let who = next_in h.procs p.label in
-    let none = no_owner h.procs.procs h.fds.rows c.shared.invariant who c.boot.ensures.fresh in
-    (λ i. record s { procs = with_fds (made i).procs h.fds.rows; process_numbers = (made i).numbers })
+    let none = no_owner h.procs.procs h.fds.processes c.shared.invariant who c.boot.ensures.fresh in
+    (λ i. record s { procs = with_fds (made i).procs h.fds.processes; process_numbers = (made i).numbers })
     ∙ (λ i. record s {
-      procs = with_fds-process h.procs.procs h.fds.rows who p i;
+      procs = with_fds-process h.procs.procs h.fds.processes who p i;
       process_numbers = map.insert h.procs.numbers p.label who.n;
     })
     ∙ (λ i. record s {
@@ -40,4 +40,4 @@ returns-clause-state c = elim c.match-boot.branch as (λ _. OnOk c.match-boot.re
 pub invariant_of-shared-2 : goal.invariant_of-shared-2
 invariant_of-shared-2 c =
     let h = c.shared.inside in
-    owners_booted c.boot.result h.procs c.boot.new.self h.fds.rows (starting c.in_ok-creds_from.field-0 c.root_directory.result) c.boot.ensures.made c.boot.ensures.err c.shared.invariant
+    owners_booted c.boot.result h.procs c.boot.new.self h.fds.processes (starting c.in_ok-creds_from.field-0 c.root_directory.result) c.boot.ensures.made c.boot.ensures.err c.shared.invariant

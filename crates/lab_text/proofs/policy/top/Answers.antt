@@ -27,5 +27,5 @@ cats_below-requires c = let few : length c.args.policy.now.cats ≤ 64 = (policy
 pub returns : goal.returns
 returns c =
     let level = subst (λ (r : Option ℕ). IfSome r (λ level. level ≡ length c.levels.result.now - 1)) c.unwrap.ensures c.new.ensures.level in
-    is_top c.args.policy.now c.unwrap.result c.cats_below.result (length c.levels.result.now) (length c.cats.result.now)
-    level (ap (λ (names : Names). length names) c.levels.ensures.names) c.cats_below.ensures (ap (λ (names : Names). length names) c.cats.ensures.names)
+    is_top c.args.policy.now c.unwrap.result c.cats_below.result c.lowest_grade.result (length c.levels.result.now) (length c.cats.result.now)
+    level (ap (λ (names : Names). length names) c.levels.ensures.names) c.cats_below.ensures (ap (λ (names : Names). length names) c.cats.ensures.names) c.lowest_grade.ensures

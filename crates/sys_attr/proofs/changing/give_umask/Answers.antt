@@ -16,18 +16,18 @@ pub unreachable-requires : goal.unreachable-requires
 unreachable-requires c =
     let h = c.shared.inside in
     let who = c.args.who.now in
-    creds_there h.procs.procs h.fds.rows who (subst (λ (t : State). IsSome (map.get t.procs who)) (sym c.shared.view_is) c.requires) (sym c.creds_mut.ensures.value ∙ ap option_copied_mut c.in_default.is)
+    creds_there h.procs.procs h.fds.processes who (subst (λ (t : State). IsSome (map.get t.procs who)) (sym c.shared.view_is) c.requires) (sym c.creds_mut.ensures.value ∙ ap option_copied_mut c.in_default.is)
 
 pub invariant_of-shared : goal.invariant_of-shared
-invariant_of-shared c = owners_creds c.shared.inside.procs.procs c.shared.inside.fds.rows c.args.who.now _ c.shared.invariant
+invariant_of-shared c = owners_creds c.shared.inside.procs.procs c.shared.inside.fds.processes c.args.who.now _ c.shared.invariant
 
 -- the process stands in the table
-stands : (c : After-creds) → map.get (with_fds c.shared.inside.procs.procs c.shared.inside.fds.rows) c.args.who.now ≡ Some (process_at c.args.shared.now c.args.who.now)
+stands : (c : After-creds) → map.get (with_fds c.shared.inside.procs.procs c.shared.inside.fds.processes) c.args.who.now ≡ Some (process_at c.args.shared.now c.args.who.now)
 stands c = ap (λ (t : State). map.get t.procs c.args.who.now) c.shared.view_is ∙ process_there c.args.shared.now c.args.who.now c.requires
 
 -- its credentials are lent
 lent : (c : After-creds) → c.in-Some.creds.now ≡ creds_of (process_at c.args.shared.now c.args.who.now)
-lent c = sym (creds_lent c.shared.inside.procs.procs c.shared.inside.fds.rows c.args.who.now _ (stands c) c.in-Some.creds.now c.in-Some.ensures.value)
+lent c = sym (creds_lent c.shared.inside.procs.procs c.shared.inside.fds.processes c.args.who.now _ (stands c) c.in-Some.creds.now c.in-Some.ensures.value)
 
 pub returns-clause-bits : goal.returns-clause-bits
 returns-clause-bits c = ap (λ (x : Credentials). x.umask) (c.creds.view_is ∙ lent c.before.before)
@@ -40,5 +40,5 @@ returns-clause-changed c =
     let p = process_at s who in
     let inside = c.creds.inside in
     let left : Credentials = record { ids = inside.ids; label = inside.label; caps = inside.caps; umask = c.args.mode } in
-    process_set c.shared.view_is who (with_creds p left) (creds_left h.procs.procs h.fds.rows who p (stands c.before.before) left)
+    process_set c.shared.view_is who (with_creds p left) (creds_left h.procs.procs h.fds.processes who p (stands c.before.before) left)
     ∙ ap (λ (x : Credentials). changed s (SetProcess who (with_creds p (record x { umask = c.args.mode })))) (c.creds.view_is ∙ lent c.before.before)

@@ -4,7 +4,7 @@ use Rattle.kern_model.specs.AttrRows.{change_label}
 use Rattle.kern_model.specs.Row.{Row}
 use Rattle.kern_model.specs.Rules.{same_label}
 use Rattle.chk_rules.specs.CheckLog.{CheckLog}
-use Rattle.chk_rules.specs.Ends.{GoesOn}
+use Rattle.chk_rules.specs.RowSteps.{GoesOn}
 use Rattle.chk_rules.specs.declared.stop.Stop.{Stop}
 use Rattle.chk_rules.proofs.Steps.{gives, need_goes, need_stops}
 use Rattle.sys_lookup.specs.declared.shared.Metadata.{Metadata}

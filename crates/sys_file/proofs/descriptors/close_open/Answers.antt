@@ -6,7 +6,7 @@ use Rattle.kern_model.specs.FileRows.{closes}
 use Rattle.kern_model.specs.State.{State, Process, changed_by, process_at}
 use Rattle.kern_model.specs.Valid.{IsValid}
 use Rattle.fd_table.specs.Files.{OpenFiles, drained, left_with}
-use Rattle.fd_table.specs.Rows.{row_of}
+use Rattle.fd_table.specs.Fds.{fds_of}
 use Rattle.fd_table.proofs.Closing.{close_changes}
 use Rattle.fd_table.proofs.Counting.{where_ok}
 use Rattle.sys_lookup.specs.Owners.{HasOwners}
@@ -35,14 +35,14 @@ returns c =
     let fd = c.args.fd in
     let valid = subst (λ (x : State). ∥ IsValid x ∥₁) (sym c.shared.view_is) c.requires.valid in
     let stands = opener h c.shared.view_is who c.args.fd _ (holds _ c.requires.open).is in
-    let q = holding h.fds.rows who stands.process in
+    let q = holding h.fds.processes who stands.process in
     let sound = sym c.is_err.ensures.value ∙ c.if-is_err.false in
     let left = where_ok c.close.result sound c.close.ensures.left in
     let emptied = where_ok c.close.result sound c.close.ensures.drained in
-    let fewer = map.remove (row_of h.fds.rows who) fd in
-    let rows = map.insert h.fds.rows who fewer in
+    let fewer = map.remove (fds_of h.fds.processes who) fd in
+    let rows = map.insert h.fds.processes who fewer in
     (λ i. record s {
-      procs = with_fds h.procs.procs (left i).rows;
+      procs = with_fds h.procs.procs (left i).processes;
       descriptions = (left i).descriptions;
       description_numbers = (left i).numbers;
       objects = emptied i;
@@ -50,7 +50,7 @@ returns c =
       object_numbers = c.close.ensures.rest.0 i;
     })
     ∙ (λ i. record s { procs = with_fds h.procs.procs rows; descriptions = (left_with h.fds rows).descriptions; objects = drained h.fds.descriptions (left i).descriptions s.objects })
-    ∙ (λ i. record s { procs = with_fds-row h.procs.procs h.fds.rows who stands.process fewer stands.is i; descriptions = (left_with h.fds rows).descriptions; objects = drained h.fds.descriptions (left_with h.fds rows).descriptions s.objects })
+    ∙ (λ i. record s { procs = with_fds-row h.procs.procs h.fds.processes who stands.process fewer stands.is i; descriptions = (left_with h.fds rows).descriptions; objects = drained h.fds.descriptions (left_with h.fds rows).descriptions s.objects })
     ∙ sym (close_changes s h.fds (table_shows h c.shared.invariant valid) who fd q)
     ∙ ap (λ (p : Process). changed_by s (closes s who p fd)) stands.same
     ∙ ap (λ (x : State). changed_by x (closes x who (process_at c.args.shared.now who) fd)) c.shared.view_is
@@ -61,5 +61,5 @@ invariant_of-shared c =
     let who = c.args.who.now in
     let stands = opener h c.shared.view_is who c.args.fd _ (holds _ c.requires.open).is in
     let sound = sym c.is_err.ensures.value ∙ c.if-is_err.false in
-    subst (λ (t : OpenFiles). ∥ HasOwners h.procs.procs t.rows ∥₁) (sym (where_ok c.close.result sound c.close.ensures.left))
-    (owners_row h.procs.procs h.fds.rows who (map.remove (row_of h.fds.rows who) c.args.fd) (record { value = stands.process; is = stands.is }) c.shared.invariant)
+    subst (λ (t : OpenFiles). ∥ HasOwners h.procs.procs t.processes ∥₁) (sym (where_ok c.close.result sound c.close.ensures.left))
+    (owners_row h.procs.procs h.fds.processes who (map.remove (fds_of h.fds.processes who) c.args.fd) (record { value = stands.process; is = stands.is }) c.shared.invariant)

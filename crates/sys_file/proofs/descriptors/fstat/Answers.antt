@@ -4,7 +4,9 @@ use Rattle.kern_model.specs.FileRows.{report_opened}
 use Rattle.kern_model.specs.Stat.{stat_of}
 use Rattle.sys_lookup.proofs.PlayLemmas.{commits_as, then_plays, stops_row, need_plays, need_stops_row}
 use Rattle.sys_file.proofs.BranchLemmas.{answering}
-use Rattle.sys_file.proofs.ReferLemmas.{read_there}
+use Rattle.sys_file.specs.Access.{access_object}
+use Rattle.sys_file.specs.declared.access.Access.TheVariants.{Read}
+use Rattle.sys_file.proofs.ReferLemmas.{step_at}
 use Rattle.std.proofs.Common.{◌∙◌}
 use Rattle.sys_file.proofs.descriptors.fstat.Goals as goal
 
@@ -18,12 +20,12 @@ returns-in_err-read_object c = λ who.
     let p = c.args.caller.now.process in
     then_plays {rest = report_opened s p} (c.in_ok-opened.ensures.step c.args.checks.now)
     (need_stops_row c.from_residual-in_err-read_object.result c.from_residual-in_err-read_object.ensures.1 refl
-    (read_there s p (λ i. (c.opened-2.view_is i).description.object) c.in_err-read_object.ensures.step))
+    (step_at (access_object Read s p) (λ i. (c.opened-2.view_is i).description.object) c.in_err-read_object.ensures.step))
 
 pub returns : goal.returns
 returns c = λ who.
     let s = c.args.caller.now.state in
     let p = c.args.caller.now.process in
     then_plays {rest = report_opened s p} (c.in_ok-opened.ensures.step c.args.checks.now)
-    (need_plays (read_there s p (λ i. (c.opened-2.view_is i).description.object) c.in_ok-read_object.ensures.step)
+    (need_plays (step_at (access_object Read s p) (λ i. (c.opened-2.view_is i).description.object) c.in_ok-read_object.ensures.step)
     (commits_as {changes = []} (answering c.answers.ensures ((λ i. answer.Stat (c.report-stat.ensures i)) ∙ (λ i. answer.Stat (stat_of s (c.opened-2.view_is i).description.object)))) refl))

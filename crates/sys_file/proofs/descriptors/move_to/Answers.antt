@@ -7,14 +7,14 @@ use Rattle.kern_model.specs.State.{State}
 use Rattle.chk_rules.specs.declared.stop.Stop.TheVariants as stop
 use Rattle.fd_table.specs.declared.table.FdError.TheVariants as error
 use Rattle.fd_table.specs.Files.{is_past}
-use Rattle.fd_table.specs.Rows.{AllFds}
+use Rattle.fd_table.specs.Fds.{AllFds}
 use Rattle.sys_lookup.specs.Owners.{HasOwners}
 use Rattle.sys_lookup.specs.PlaysRow.{PlaysRow}
 use Rattle.sys_lookup.specs.Shared.{state_of, with_fds}
 use Rattle.sys_lookup.proofs.FdChanges.{with_files}
 use Rattle.sys_lookup.proofs.PlayLemmas.{commits_as, refuse_plays, refuse_stops_row}
 use Rattle.sys_lookup.proofs.RefuseLemmas.{lets_on, refuses}
-use Rattle.sys_file.proofs.BranchLemmas.{answering, plays_result}
+use Rattle.sys_file.proofs.BranchLemmas.{answering, no_error, no_value, plays_result}
 use Rattle.sys_file.proofs.ReferLemmas.{referred}
 use Rattle.sys_file.proofs.descriptors.move_to.Goals.{in-Ok, in-Err}
 use Rattle.sys_file.proofs.descriptors.move_to.Goals as goal
@@ -33,28 +33,20 @@ returns c = λ f log is.
     (subst (λ y. PlaysRow s log (moves f y c.args.size) r t log) same
     (elim c.match-seek.branch [
       | in-Ok w ↦
-          let within : is_past z c.args.size ≡ false =
-          elim (is_past z c.args.size) as (λ b. is_past z c.args.size ≡ b → b ≡ false) [
-            | true ↦ λ past. let no : Ok w.in-Ok.offset ≡ Err error.PastEnd = w.in-Ok.ensures.past_end some past in cc
-            | false ↦ λ _. refl
-          ] refl in
+          let within = no_error (is_past z c.args.size) (w.in-Ok.ensures.past_end some) refl in
           let set : Ok w.in-Ok.offset ≡ Ok (unsigned_abs z) = w.in-Ok.ensures.offset some within in
           let offset : w.in-Ok.offset ≡ unsigned_abs z = cc in
           let new = w.in-Ok.ensures.moved f.did f.description at.did at.description in
           plays_result w.result-is
           (refuse_plays (lets_on within)
           (commits_as {changes = moved f (unsigned_abs z) ∷ []} (answering w.answers.ensures (ap answer.Number offset))
-          (λ i. record s { procs = with_fds h.procs.procs (new i).rows; descriptions = (new i).descriptions; description_numbers = (new i).numbers })))
+          (λ i. record s { procs = with_fds h.procs.procs (new i).processes; descriptions = (new i).descriptions; description_numbers = (new i).numbers })))
       | in-Err w ↦
-          let past : is_past z c.args.size ≡ true =
-          elim (is_past z c.args.size) as (λ b. is_past z c.args.size ≡ b → b ≡ true) [
-            | true ↦ λ _. refl
-            | false ↦ λ within. let no : Err w.in-Err.field-0 ≡ Ok (unsigned_abs z) = w.in-Err.ensures.offset some within in cc
-          ] refl in
+          let past = no_value (is_past z c.args.size) (w.in-Err.ensures.offset some) refl in
           let kept = w.in-Err.ensures.err in
           plays_result w.result-is
-          (refuse_stops_row (Err (stop.Refused EINVAL)) refl (λ i. record s { procs = with_fds h.procs.procs (kept i).rows; descriptions = (kept i).descriptions; description_numbers = (kept i).numbers }) (refuses past))
+          (refuse_stops_row (Err (stop.Refused EINVAL)) refl (λ i. record s { procs = with_fds h.procs.procs (kept i).processes; descriptions = (kept i).descriptions; description_numbers = (kept i).numbers }) (refuses past))
     ]))
 
 pub invariant_of-shared : goal.invariant_of-shared
-invariant_of-shared c = subst (λ (rows : AllFds). ∥ HasOwners c.shared.inside.procs.procs rows ∥₁) (sym c.seek.ensures.rows) c.shared.invariant
+invariant_of-shared c = subst (λ (rows : AllFds). ∥ HasOwners c.shared.inside.procs.procs rows ∥₁) (sym c.seek.ensures.processes) c.shared.invariant

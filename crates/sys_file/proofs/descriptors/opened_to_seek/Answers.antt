@@ -9,7 +9,9 @@ use Rattle.chk_rules.proofs.Steps.{then_goes, stops_there, need_goes, need_stops
 use Rattle.sys_lookup.specs.Shared.{metadata_of}
 use Rattle.sys_lookup.specs.declared.shared.Metadata.{Metadata}
 use Rattle.sys_lookup.proofs.CheckLemmas.{not_refused}
-use Rattle.sys_file.proofs.ReferLemmas.{read_there}
+use Rattle.sys_file.specs.Access.{access_object}
+use Rattle.sys_file.specs.declared.access.Access.TheVariants.{Read}
+use Rattle.sys_file.proofs.ReferLemmas.{step_at}
 use Rattle.sys_file.proofs.descriptors.opened_to_seek.Goals as goal
 
 -- whether the object that was read is a stream
@@ -27,7 +29,7 @@ returns-in_err-object-clause-step c =
     let log = c.args.checks.now in
     then_goes {next = to_seek s p} (c.in_ok-opened.ensures.step log)
     (need_stops c.from_residual-in_err-object.result c.from_residual-in_err-object.ensures.1
-    (read_there s p (λ i. (c.opened-2.view_is i).description.object) c.in_err-object.ensures.step))
+    (step_at (access_object Read s p) (λ i. (c.opened-2.view_is i).description.object) c.in_err-object.ensures.step))
 
 pub returns-in_err-refuse_if-clause-step : goal.returns-in_err-refuse_if-clause-step
 returns-in_err-refuse_if-clause-step c =
@@ -36,7 +38,7 @@ returns-in_err-refuse_if-clause-step c =
     let log = c.args.checks.now in
     let f = c.in_ok-opened.opened in
     then_goes {next = to_seek s p} (c.in_ok-opened.ensures.step log)
-    (need_goes (read_there s p (λ i. (c.opened-2.view_is i).description.object) c.in_ok-object.ensures.step)
+    (need_goes (step_at (access_object Read s p) (λ i. (c.opened-2.view_is i).description.object) c.in_ok-object.ensures.step)
     (refuse_stops c.from_residual-in_err-refuse_if.result c.from_residual-in_err-refuse_if.ensures.1
     (equal_refusal (same_kind s _ f c.in_ok-object.object _ c.is_stream.ensures c.in_ok-object.ensures.object (λ i. (c.opened-2.view_is i).description.object)) (c.in_err-refuse_if.ensures c.read_object.new.checks))))
 
@@ -47,7 +49,7 @@ returns-clause-step c =
     let log = c.args.checks.now in
     let f = c.in_ok-opened.opened in
     then_goes {next = to_seek s p} (c.in_ok-opened.ensures.step log)
-    (need_goes (read_there s p (λ i. (c.opened-2.view_is i).description.object) c.in_ok-object.ensures.step)
+    (need_goes (step_at (access_object Read s p) (λ i. (c.opened-2.view_is i).description.object) c.in_ok-object.ensures.step)
     (refuse_goes (equal_refusal (same_kind s _ f c.in_ok-object.object _ c.is_stream.ensures c.in_ok-object.ensures.object (λ i. (c.opened-2.view_is i).description.object)) (c.in_ok-refuse_if.ensures c.read_object.new.checks)) (gives refl)))
 
 pub returns-clause-no_stream : goal.returns-clause-no_stream

@@ -7,7 +7,7 @@ use Rattle.kern_model.specs.Valid.{IsThere}
 use Rattle.fd_table.specs.declared.table.FdError.{FdError}
 use Rattle.fd_table.specs.declared.table.FdError.TheVariants as error
 use Rattle.fd_table.specs.Files.{OpenFiles, opened_for}
-use Rattle.fd_table.specs.Rows.{fd_count}
+use Rattle.fd_table.specs.Fds.{fd_count}
 use Rattle.fd_table.proofs.Counting.{either_way}
 use Rattle.sys_lookup.specs.Callers.{CallerView}
 use Rattle.sys_lookup.specs.Owners.{HasOwners}
@@ -54,9 +54,9 @@ returns-clause-described c =
     let id = c.args.id.now in
     let p = process_at c.args.shared.now who in
     let stands = caller_stands h c.shared.view_is who c.requires.living in
-    let q = holding h.fds.rows who stands.process in
+    let q = holding h.fds.processes who stands.process in
     let label_is : c.label-label.result ≡ p.label = c.label-label.ensures ∙ ap (λ (k : CallerView). k.process.label) c.new.ensures.caller in
-    let same : ShowTheSame h.fds c.reserve.new.self = record { rows = c.reserve.ensures.same; descriptions = c.reserve.ensures.descriptions; numbers = c.reserve.ensures.numbers } in
+    let same : ShowTheSame h.fds c.reserve.new.self = record { processes = c.reserve.ensures.same; descriptions = c.reserve.ensures.descriptions; numbers = c.reserve.ensures.numbers } in
     let Made = with_files s h.procs.procs c.open_at_lowest.new.self ≡ changed_by c.args.shared.now (opening c.args.shared.now who p id c.args.flags) in
     elim c.match-open_at_lowest.branch [
       | in-Ok w ↦ on_ok w.result-is Made
@@ -70,17 +70,17 @@ pub invariant_of-shared : goal.invariant_of-shared
 invariant_of-shared c =
     let h = c.shared.inside in
     let stands = caller_stands h c.shared.view_is c.args.who.now c.requires.living in
-    owners_others h.procs.procs h.fds.rows c.reserve.new.self.rows c.args.who.now (record { value = stands.process; is = stands.is }) c.reserve.ensures.others c.shared.invariant
+    owners_others h.procs.procs h.fds.processes c.reserve.new.self.processes c.args.who.now (record { value = stands.process; is = stands.is }) c.reserve.ensures.others c.shared.invariant
 
 pub invariant_of-shared-2 : goal.invariant_of-shared-2
 invariant_of-shared-2 c =
     let h = c.shared.inside in
     let who = c.args.who.now in
-    let rows = c.reserve.new.self.rows in
+    let rows = c.reserve.new.self.processes in
     let stands = caller_stands h c.shared.view_is who c.requires.living in
     let there : IsThere h.procs.procs who = record { value = stands.process; is = stands.is } in
-    let owners = owners_others h.procs.procs h.fds.rows rows who there c.reserve.ensures.others c.shared.invariant in
+    let owners = owners_others h.procs.procs h.fds.processes rows who there c.reserve.ensures.others c.shared.invariant in
     either_way c.open_at_lowest.result
-    (λ opened _. subst (λ (t : OpenFiles). ∥ HasOwners h.procs.procs t.rows ∥₁) (sym opened) (owners_row h.procs.procs rows who _ there owners))
-    (λ same. subst (λ (t : OpenFiles). ∥ HasOwners h.procs.procs t.rows ∥₁) (sym same) owners)
+    (λ opened _. subst (λ (t : OpenFiles). ∥ HasOwners h.procs.procs t.processes ∥₁) (sym opened) (owners_row h.procs.procs rows who _ there owners))
+    (λ same. subst (λ (t : OpenFiles). ∥ HasOwners h.procs.procs t.processes ∥₁) (sym same) owners)
     c.open_at_lowest.ensures.opened c.open_at_lowest.ensures.opened c.open_at_lowest.ensures.err

@@ -1,19 +1,9 @@
-use Rattle.std.proofs.Common.{◌≡◌, ◌∙◌, ◌&&◌, ap, subst, Bool, Result}
-use Rattle.std.specs.Prelude.{⊤}
-use Rattle.kern_model.specs.declared.checks.Check.{Check}
+use Rattle.std.proofs.Common.{◌∙◌, ◌&&◌, ap}
 use Rattle.kern_model.specs.Kinds.{is_dir, is_fifo}
-use Rattle.kern_model.specs.Rules.{mac_write_of}
-use Rattle.kern_model.specs.Row.{Row, need_if}
-use Rattle.kern_model.specs.State.{object_at}
-use Rattle.chk_rules.specs.CheckLog.{CheckLog}
-use Rattle.chk_rules.specs.Ends.{GoesOn}
-use Rattle.chk_rules.specs.declared.stop.Stop.{Stop}
 use Rattle.chk_rules.proofs.Steps.{equal_refusal, refuse_goes, refuse_stops}
 use Rattle.sys_lookup.specs.declared.shared.Metadata.{Metadata}
+use Rattle.sys_lookup.proofs.AskLemmas.{equal_asked}
 use Rattle.sys_file.proofs.opening.kind_allows.Goals as goal
-
-equal_asked : {a b : CheckLog} {r : Result ⊤ Stop} (check : Check) {x y : Bool} → x ≡ y → GoesOn a (λ (rest : ⊤ → Row). need_if x check (rest tt)) r b → GoesOn a (λ (rest : ⊤ → Row). need_if y check (rest tt)) r b
-equal_asked {a = a} {b = b} {r = r} check same step = subst (λ z. GoesOn a (λ (rest : ⊤ → Row). need_if z check (rest tt)) r b) same step
 
 pub returns-in_err-refuse_if : goal.returns-in_err-refuse_if
 returns-in_err-refuse_if c = λ s id same.
@@ -33,4 +23,4 @@ returns c = λ s id same.
     let drains = c.both-drains.ensures ∙ (λ i. (c.is_fifo.ensures ∙ ap (λ (m : Metadata). is_fifo m.kind) same) i && c.args.flags.r) in
     refuse_goes (equal_refusal (c.is_directory.ensures ∙ ap (λ (m : Metadata). is_dir m.kind) same) (c.in_ok-refuse_if.ensures log))
     (refuse_goes (equal_refusal (c.both.ensures ∙ (λ i. drains i && c.args.flags.w)) (c.in_ok-refuse_if-2.ensures log))
-    (equal_asked (mac_write_of c.args.caller.now.process id (object_at s id) c.args.place) drains (c.mac_write_if.ensures s id same)))
+    (equal_asked drains (c.mac_write_check.ensures s id same) c.must_if.ensures))

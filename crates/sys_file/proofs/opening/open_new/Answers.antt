@@ -1,4 +1,4 @@
-use Rattle.std.proofs.Common.{◌≡◌, ◌∙◌, ap, subst, is_some, ◌++◌, Result}
+use Rattle.std.proofs.Common.{◌≡◌, ◌∙◌, ap, subst, is_some, ◌++◌, unwrap_or, Result}
 use Rattle.std.specs.FinMap as map
 use Rattle.lab_lattice.specs.Label.{Label}
 use Rattle.kern_model.specs.declared.calls.Answer.TheVariants as answer
@@ -11,7 +11,7 @@ use Rattle.kern_model.specs.Kinds.{masked, object_with}
 use Rattle.kern_model.specs.OpenRows.{new_file, opens_made}
 use Rattle.kern_model.specs.State.{State, changed_by, process_at}
 use Rattle.chk_rules.specs.CheckLog.{CheckLog}
-use Rattle.chk_rules.specs.Ends.{GoesOn}
+use Rattle.chk_rules.specs.RowSteps.{GoesOn}
 use Rattle.chk_rules.specs.declared.stop.Stop.{Stop}
 use Rattle.sys_lookup.specs.Callers.{CallerView}
 use Rattle.sys_lookup.proofs.PlayLemmas.{commits_as, no_memory_row, stops_keeping, then_plays}
@@ -27,7 +27,7 @@ returns-in_err-id c = λ log.
     let s = c.args.shared.now in
     let who = c.args.who.now in
     let label_is = c.label-label.ensures ∙ ap (λ (k : CallerView). k.process.label) c.new-caller.ensures.caller in
-    stops_keeping {rest = opens_made s who (process_at s who) c.args.flags c.args.file.mode c.args.spot.now.0 c.args.spot.now.1} c.from_residual.result c.from_residual.ensures.1 c.in_err-id.ensures.kept
+    stops_keeping {rest = opens_made s who (process_at s who) c.args.opening.now.flags (unwrap_or c.args.opening.now.mode 0) c.args.spot.now.0 c.args.spot.now.1} c.from_residual.result c.from_residual.ensures.1 c.in_err-id.ensures.kept
     (number_of s label_is (c.in_err-id.ensures.step log))
 
 pub describe-requires-clause-living : goal.describe-requires-clause-living
@@ -50,11 +50,13 @@ returns c = λ log.
     let dir = c.args.spot.now.0 in
     let name = c.args.spot.now.1 in
     let id = c.in_ok-id.id in
+    let flags = c.args.opening.now.flags in
+    let mode = unwrap_or c.args.opening.now.mode 0 in
     let label_is = c.label-label.ensures ∙ ap (λ (k : CallerView). k.process.label) c.new-caller.ensures.caller in
-    let attr_is = c.new_attr-attr.ensures ∙ ap (λ (k : CallerView). attr_of k.process (masked c.args.file.mode k.process.umask)) c.new-caller.ensures.caller in
-    let first = c.in_ok-id.ensures.made ∙ (λ i. changed_by s (made s (label_is i) dir name (object_with (label_is i) (attr_is i) (c.requires.empty i)))) in
-    then_plays {rest = opens_made s who p c.args.flags c.args.file.mode dir name}
+    let attr_is = c.new_attr-attr.ensures ∙ (λ i. attr_of (c.new-caller.ensures.caller i).process (masked (c.unwrap_or-mode.ensures i) (c.new-caller.ensures.caller i).process.umask)) in
+    let first = c.in_ok-id.ensures.made ∙ (λ i. changed_by s (made s (label_is i) dir name (object_with (label_is i) (attr_is i) (body.File (c.new-empty.ensures i))))) in
+    then_plays {rest = opens_made s who p flags mode dir name}
     (number_of s label_is (c.in_ok-id.ensures.step log))
-    (commits_as {changes = made s p.label dir name (new_file p c.args.file.mode) ++ opening s who p id c.args.flags}
+    (commits_as {changes = made s p.label dir name (new_file p mode) ++ opening s who p id flags}
     (answering c.answers.ensures (ap answer.Number (c.in_ok-fd.ensures.fd ∙ ap (λ (u : State). lowest_free (process_at u who).fds) first)))
-    (c.in_ok-fd.ensures.described ∙ ap (λ (u : State). changed_by u (opening u who (process_at u who) id c.args.flags)) first))
+    (c.in_ok-fd.ensures.described ∙ ap (λ (u : State). changed_by u (opening u who (process_at u who) id flags)) first))

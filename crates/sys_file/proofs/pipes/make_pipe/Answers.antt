@@ -8,7 +8,7 @@ use Rattle.kern_model.specs.State.{State, Process, changed_by, drawn, next_descr
 use Rattle.kern_model.proofs.KeyLaws.{pid_cmp_total}
 use Rattle.kern_model.proofs.MapLemmas.{get-insert_same}
 use Rattle.sys_file.proofs.PipeLemmas.{both_are, drawn_after, one_left, one_less, reader_is, reader_made, with_reader}
-use Rattle.sys_file.specs.Ends.{end_flags}
+use Rattle.sys_file.specs.PipeEnds.{end_flags}
 use Rattle.sys_file.proofs.pipes.make_pipe.Goals as goal
 
 pub describe-requires-clause-living : goal.describe-requires-clause-living

@@ -11,23 +11,8 @@ use Rattle.sys_file.proofs.playing.play.Goals as goal
 pub returns-in-OpenPath-clause-played : goal.returns-in-OpenPath-clause-played
 returns-in-OpenPath-clause-played c = plays_as c.args.shared.now c.args.who.now _ c.in-OpenPath.is (c.open.ensures.played)
 
-pub returns-in-OpenPath-clause-names : goal.returns-in-OpenPath-clause-names
-unfolding has_names
-returns-in-OpenPath-clause-names c = names_as c.in-OpenPath.is c.open.ensures.names
-
 pub returns-in-Close-clause-played : goal.returns-in-Close-clause-played
 returns-in-Close-clause-played c = plays_as c.args.shared.now c.args.who.now _ c.in-Close.is (c.close.ensures.played c.args.checks.now)
-
-pub returns-in-Close-clause-names : goal.returns-in-Close-clause-names
-unfolding has_names
-returns-in-Close-clause-names c = names_as c.in-Close.is refl
-
-pub returns-in-Read-clause-played : goal.returns-in-Read-clause-played
-returns-in-Read-clause-played c = plays_as c.args.shared.now c.args.who.now _ c.in-Read.is (c.read.ensures)
-
-pub returns-in-Read-clause-names : goal.returns-in-Read-clause-names
-unfolding has_names
-returns-in-Read-clause-names c = names_as c.in-Read.is refl
 
 pub returns-in-Write-clause-played : goal.returns-in-Write-clause-played
 returns-in-Write-clause-played c =
@@ -35,46 +20,19 @@ returns-in-Write-clause-played c =
     (subst (λ (bytes : List ℕ). PlaysRow c.args.shared.now c.args.checks.now (write_row c.args.shared.now c.args.who.now (process_at c.args.shared.now c.args.who.now) c.in-Write.fd bytes) c.write.result c.write.new.shared c.write.new.checks) c.items.ensures
     (c.write.ensures))
 
-pub returns-in-Write-clause-names : goal.returns-in-Write-clause-names
-unfolding has_names
-returns-in-Write-clause-names c = names_as c.in-Write.is refl
-
 pub returns-in-Lseek-clause-played : goal.returns-in-Lseek-clause-played
 returns-in-Lseek-clause-played c =
     plays_as c.args.shared.now c.args.who.now _ c.in-Lseek.is
     (subst (λ (z : ℤ). PlaysRow c.args.shared.now c.args.checks.now (lseek_row c.args.shared.now c.args.who.now (process_at c.args.shared.now c.args.who.now) c.in-Lseek.fd c.in-Lseek.from z) c.lseek.result c.lseek.new.shared c.lseek.new.checks) (to_z-of_z w64 c.in-Lseek.offset (search rules))
     (c.lseek.ensures))
 
-pub returns-in-Lseek-clause-names : goal.returns-in-Lseek-clause-names
-unfolding has_names
-returns-in-Lseek-clause-names c = names_as c.in-Lseek.is refl
-
 pub returns-in-Dup-clause-played : goal.returns-in-Dup-clause-played
 returns-in-Dup-clause-played c = plays_as c.args.shared.now c.args.who.now _ c.in-Dup.is (c.dup.ensures.played c.args.checks.now)
 
-pub returns-in-Dup-clause-names : goal.returns-in-Dup-clause-names
-unfolding has_names
-returns-in-Dup-clause-names c = names_as c.in-Dup.is refl
-
 pub returns-in-Pipe-clause-played : goal.returns-in-Pipe-clause-played
 returns-in-Pipe-clause-played c = plays_as c.args.shared.now c.args.who.now _ c.in-Pipe.is (c.pipe.ensures c.args.checks.now)
-
-pub returns-in-Pipe-clause-names : goal.returns-in-Pipe-clause-names
-unfolding has_names
-returns-in-Pipe-clause-names c = names_as c.in-Pipe.is refl
-
-pub returns-in-Mkfifo-clause-played : goal.returns-in-Mkfifo-clause-played
-returns-in-Mkfifo-clause-played c = plays_as c.args.shared.now c.args.who.now _ c.in-Mkfifo.is (c.mkfifo.ensures.played)
-
-pub returns-in-Mkfifo-clause-names : goal.returns-in-Mkfifo-clause-names
-unfolding has_names
-returns-in-Mkfifo-clause-names c = names_as c.in-Mkfifo.is c.mkfifo.ensures.names
 
 pub returns-in-Fstat-clause-played : goal.returns-in-Fstat-clause-played
 returns-in-Fstat-clause-played c =
     plays_as c.args.shared.now c.args.who.now _ c.in-Fstat.is
     (subst (λ (k : CallerView). PlaysRow k.state c.args.checks.now (fstat_row k.state c.args.who.now k.process c.in-Fstat.fd) c.fstat.result k.state c.fstat.new.checks) c.new.ensures.caller (c.fstat.ensures c.args.who.now))
-
-pub returns-in-Fstat-clause-names : goal.returns-in-Fstat-clause-names
-unfolding has_names
-returns-in-Fstat-clause-names c = names_as c.in-Fstat.is refl

@@ -10,9 +10,9 @@ use Rattle.fs_nodes.specs.Nodes.{IsStream}
 use Rattle.sys_lookup.proofs.PlayLemmas.{no_memory_row}
 use Rattle.sys_lookup.specs.Shared.{state_of}
 use Rattle.sys_lookup.specs.declared.effect.Effect.{Effect}
-use Rattle.sys_file.proofs.BranchLemmas.{plays_in, plays_result}
+use Rattle.sys_file.proofs.BranchLemmas.{no_error, no_value, plays_in, plays_result}
 use Rattle.sys_file.proofs.ObjectLemmas.{few_wait}
-use Rattle.sys_file.proofs.StreamLemmas.{no_error, no_value, ok_value, only_again, taken, waits}
+use Rattle.sys_file.proofs.StreamLemmas.{ok_value, only_again, taken, waits}
 use Rattle.sys_file.proofs.reading.read_stream.Goals.{in-Ok, in-Err-Again}
 use Rattle.sys_file.proofs.reading.read_stream.Goals as goal
 
@@ -72,7 +72,7 @@ returns c = λ log.
     plays_in (λ x. comes_out true x c.args.n f (open_object x f)) c.shared.view_is
     (elim c.match-pipe_take.branch [
       | in-Ok w ↦
-          let more = no_error empty (c.pipe_take.ensures.again o there) w.in-Ok.field-0 w.in-Ok.is in
+          let more = no_error empty (c.pipe_take.ensures.again o there) w.in-Ok.is in
           let count = ok_value w.in-Ok.field-0 _ w.in-Ok.is (c.pipe_take.ensures.count o there more) in
           let rest = dropped c.args.n w.in-Ok.field-0 _ o.bytes count (length-take-le _ _ (few_copied c.args.shared.now c.requires.valid f.description.object c.requires.stream c.args.n c.items.result.now (c.items.ensures ∙ bytes)) ∙ ap length (c.items.ensures ∙ bytes)) in
           plays_result (w.result-is ∙ ap (λ (e : Effect). Ok e) w.answers.ensures)
@@ -80,7 +80,7 @@ returns c = λ log.
           ((λ i. record s { objects = w.in-Ok.ensures.left o there i; object_numbers = w.in-Ok.ensures.rest.0 i; entries = w.in-Ok.ensures.rest.1 i })
           ∙ (λ i. changed s (SetObject (id i) (record o { bytes = rest i })))))
       | in-Err-Again w ↦
-          let waiting = no_value empty _ (c.pipe_take.ensures.count o there) (w.in-Err-Again.is ∙ ap Err w.in-Err-Again.field-0-is) in
+          let waiting = no_value empty (c.pipe_take.ensures.count o there) (w.in-Err-Again.is ∙ ap Err w.in-Err-Again.field-0-is) in
           plays_result w.result-is
           (waits s log f o is c.args.n _ ((λ i. length o.bytes == 0 && any_open s (λ d. d.writes) (sym id i)) ∙ waiting)
           (λ i. record s { objects = w.in-Err-Again.ensures.err i; object_numbers = w.in-Err-Again.ensures.rest.0 i; entries = w.in-Err-Again.ensures.rest.1 i }))

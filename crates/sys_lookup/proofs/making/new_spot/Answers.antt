@@ -5,7 +5,7 @@ use Rattle.kern_model.specs.Create.{make_in}
 use Rattle.kern_model.specs.Rules.{created_order}
 use Rattle.kern_model.specs.TreeRows.{new_spot_found}
 use Rattle.kern_model.specs.Walk.{dir_place}
-use Rattle.chk_rules.specs.Ends.{GoesOn}
+use Rattle.chk_rules.specs.RowSteps.{GoesOn}
 use Rattle.chk_rules.proofs.Steps.{then_goes, stops_there, item_goes, item_stops, gives}
 use Rattle.sys_lookup.specs.Walks.{place_in}
 use Rattle.sys_lookup.specs.declared.argument.PathArgument.TheVariants.{First}

@@ -19,7 +19,7 @@ unreachable-requires-in-Err c =
 pub invariant_of-shared : goal.invariant_of-shared
 invariant_of-shared c =
     let h = c.shared.inside in
-    owners_creds h.procs.procs h.fds.rows c.args.who.now c.make.new.creds c.shared.invariant
+    owners_creds h.procs.procs h.fds.processes c.args.who.now c.make.new.creds c.shared.invariant
 
 pub returns : goal.returns
 returns c =

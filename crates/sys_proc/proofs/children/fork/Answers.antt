@@ -9,8 +9,8 @@ use Rattle.kern_model.specs.Valid.{IsThere, IsValid}
 use Rattle.kern_model.proofs.KeyLaws.{pid_cmp_total}
 use Rattle.kern_model.proofs.MapLemmas.{get-insert_same}
 use Rattle.chk_rules.specs.declared.stop.Stop.TheVariants as stop
-use Rattle.fd_table.specs.Files.{OpenFiles, with_row}
-use Rattle.fd_table.specs.Rows.{row_of}
+use Rattle.fd_table.specs.Files.{OpenFiles, with_fds_of}
+use Rattle.fd_table.specs.Fds.{fds_of}
 use Rattle.proc_table.specs.declared.procs.ProcError.{ProcError}
 use Rattle.proc_table.specs.declared.procs.ProcError.TheVariants.{Full}
 use Rattle.proc_table.specs.Procs.{ProcTable, next_in, with_new}
@@ -26,13 +26,13 @@ pub fork-requires : goal.fork-requires
 fork-requires c = in_procs c.shared.inside c.args.shared.now c.shared.view_is c.args.who.now c.requires.living
 
 -- whether or not a child was added, each descriptor has its process
-owners_after : (c : After-fork) → ∥ HasOwners c.fork.new.self.procs c.shared.inside.fds.rows ∥₁
+owners_after : (c : After-fork) → ∥ HasOwners c.fork.new.self.procs c.shared.inside.fds.processes ∥₁
 owners_after c =
     let h = c.shared.inside in
     let q = in_procs h c.args.shared.now c.shared.view_is c.args.who.now c.requires.living in
     let child = child_of c.args.who.now q.value in
-    left_either (λ (t : ProcTable). ∥ HasOwners t.procs h.fds.rows ∥₁) c.fork.result (with_new h.procs child) h.procs c.fork.new.self (c.fork.ensures.made q.value q.is) c.fork.ensures.err
-    (owners_process h.procs.procs h.fds.rows (next_in h.procs q.value.label) child c.shared.invariant) c.shared.invariant
+    left_either (λ (t : ProcTable). ∥ HasOwners t.procs h.fds.processes ∥₁) c.fork.result (with_new h.procs child) h.procs c.fork.new.self (c.fork.ensures.made q.value q.is) c.fork.ensures.err
+    (owners_process h.procs.procs h.fds.processes (next_in h.procs q.value.label) child c.shared.invariant) c.shared.invariant
 
 pub invariant_of-shared : goal.invariant_of-shared
 invariant_of-shared c = owners_after c.before
@@ -56,10 +56,10 @@ copy_process-requires c =
     let h = c.shared.inside in
     let q = in_procs h c.args.shared.now c.shared.view_is c.args.who.now c.requires.living in
     let valid = subst (λ (x : State). ∥ IsValid x ∥₁) (sym c.shared.view_is) c.requires.valid in
-    ap (map.get h.fds.rows) (c.in-Ok.ensures.who q.value q.is) ∙ new_row h c.shared.invariant valid q.value.label
+    ap (map.get h.fds.processes) (c.in-Ok.ensures.who q.value q.is) ∙ new_row h c.shared.invariant valid q.value.label
 
 -- whether or not its descriptors were added, each descriptor has its process
-owners_last : (c : After-copy_process) → ∥ HasOwners c.fork.new.self.procs c.copy_process.new.self.rows ∥₁
+owners_last : (c : After-copy_process) → ∥ HasOwners c.fork.new.self.procs c.copy_process.new.self.processes ∥₁
 owners_last c =
     let h = c.shared.inside in
     let who = c.args.who.now in
@@ -71,10 +71,10 @@ owners_last c =
       is = ap (λ (t : ProcTable). map.get t.procs c.in-Ok.child) made ∙ ap (map.get (map.insert h.procs.procs next (child_of who q.value))) (c.in-Ok.ensures.who q.value q.is) ∙ get-insert_same pid_cmp_total h.procs.procs next (child_of who q.value);
     } in
     let procs = c.fork.new.self.procs in
-    let row = row_of h.fds.rows who in
-    let known : ∥ HasOwners procs h.fds.rows ∥₁ = subst (λ (t : ProcTable). ∥ HasOwners t.procs h.fds.rows ∥₁) (sym made) (owners_process h.procs.procs h.fds.rows next (child_of who q.value) c.shared.invariant) in
-    left_either (λ (t : OpenFiles). ∥ HasOwners procs t.rows ∥₁) c.copy_process.result (with_row h.fds c.in-Ok.child row) h.fds c.copy_process.new.self c.copy_process.ensures.ok c.copy_process.ensures.err
-    (owners_row procs h.fds.rows c.in-Ok.child row there known) known
+    let row = fds_of h.fds.processes who in
+    let known : ∥ HasOwners procs h.fds.processes ∥₁ = subst (λ (t : ProcTable). ∥ HasOwners t.procs h.fds.processes ∥₁) (sym made) (owners_process h.procs.procs h.fds.processes next (child_of who q.value) c.shared.invariant) in
+    left_either (λ (t : OpenFiles). ∥ HasOwners procs t.processes ∥₁) c.copy_process.result (with_fds_of h.fds c.in-Ok.child row) h.fds c.copy_process.new.self c.copy_process.ensures.ok c.copy_process.ensures.err
+    (owners_row procs h.fds.processes c.in-Ok.child row there known) known
 
 pub invariant_of-shared-in_err-copy_process : goal.invariant_of-shared-in_err-copy_process
 invariant_of-shared-in_err-copy_process c = owners_last c.before.before.before

@@ -18,8 +18,8 @@ invariant_of-shared c =
     let who = c.args.who.now in
     let q = in_procs h c.args.shared.now c.shared.view_is who c.requires in
     let rest = record q.value { ended = drop 1 q.value.ended } in
-    left_either (λ (t : ProcTable). ∥ HasOwners t.procs h.fds.rows ∥₁) c.reap.result (with_process h.procs who rest) h.procs c.reap.new.self (c.reap.ensures.taken q.value q.is) c.reap.ensures.err
-    (owners_process h.procs.procs h.fds.rows who rest c.shared.invariant) c.shared.invariant
+    left_either (λ (t : ProcTable). ∥ HasOwners t.procs h.fds.processes ∥₁) c.reap.result (with_process h.procs who rest) h.procs c.reap.new.self (c.reap.ensures.taken q.value q.is) c.reap.ensures.err
+    (owners_process h.procs.procs h.fds.processes who rest c.shared.invariant) c.shared.invariant
 
 pub returns-clause-played : goal.returns-clause-played
 returns-clause-played c = λ log.

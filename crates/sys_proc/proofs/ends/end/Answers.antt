@@ -18,8 +18,8 @@ invariant_of-shared c =
     let h = c.shared.inside in
     let who = c.args.who.now in
     let q = in_procs h c.args.shared.now c.shared.view_is who c.requires.living in
-    subst (λ (t : OpenFiles). ∥ HasOwners c.finish.new.self.procs t.rows ∥₁) (sym c.drop_process.ensures.left)
-    (subst (λ (t : ProcTable). ∥ HasOwners t.procs (map.remove h.fds.rows who) ∥₁) (sym (c.finish.ensures q.value q.is)) (owners_ended h.procs.procs h.fds.rows who q.value c.args.ending c.shared.invariant))
+    subst (λ (t : OpenFiles). ∥ HasOwners c.finish.new.self.procs t.processes ∥₁) (sym c.drop_process.ensures.left)
+    (subst (λ (t : ProcTable). ∥ HasOwners t.procs (map.remove h.fds.processes who) ∥₁) (sym (c.finish.ensures q.value q.is)) (owners_ended h.procs.procs h.fds.processes who q.value c.args.ending c.shared.invariant))
 
 pub returns : goal.returns
 returns c = λ log.

@@ -9,5 +9,5 @@ pub returns : goal.returns
 returns c =
     let h = c.shared.inside in
     ap (option_map creds_of) c.find.ensures
-    ∙ sym (field-with_fds creds_of (λ _ _ _. refl) h.procs.procs h.fds.rows c.args.target.now)
+    ∙ sym (field-with_fds creds_of (λ _ _ _. refl) h.procs.procs h.fds.processes c.args.target.now)
     ∙ ap (λ (s : State). option_map creds_of (map.get s.procs c.args.target.now)) c.shared.view_is

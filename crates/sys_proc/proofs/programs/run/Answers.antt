@@ -17,7 +17,7 @@ unreachable-requires c =
 pub invariant_of-shared : goal.invariant_of-shared
 invariant_of-shared c =
     let h = c.shared.inside in
-    owners_creds h.procs.procs h.fds.rows c.args.who.now c.exec_transform.new.self c.shared.invariant
+    owners_creds h.procs.procs h.fds.processes c.args.who.now c.exec_transform.new.self c.shared.invariant
 
 pub returns : goal.returns
 returns c = λ log.

@@ -5,7 +5,7 @@ use Rattle.kern_model.specs.Keys.{same_oid}
 use Rattle.kern_model.specs.State.{State, Process}
 use Rattle.kern_model.specs.TreeRows.{gives_way, may_replace, over_other}
 use Rattle.chk_rules.specs.CheckLog.{CheckLog}
-use Rattle.chk_rules.specs.Ends.{GoesOn}
+use Rattle.chk_rules.specs.RowSteps.{GoesOn}
 use Rattle.chk_rules.specs.declared.stop.Stop.{Stop}
 use Rattle.chk_rules.proofs.Steps.{need_goes, need_stops, item_goes, item_stops, gives}
 use Rattle.sys_lookup.specs.declared.shared.Metadata.{Metadata}

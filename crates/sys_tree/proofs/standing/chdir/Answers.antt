@@ -2,17 +2,15 @@ use Rattle.std.proofs.Common.{refl}
 use Rattle.kern_model.specs.State.{process_at}
 use Rattle.kern_model.specs.TreeRows.{go_to}
 use Rattle.kern_model.specs.Walk.{enter}
-use Rattle.sys_lookup.proofs.PlayLemmas.{commits_as, item_plays, item_stops_row, step_called, stops_row, then_plays}
-use Rattle.sys_tree.proofs.EntryLemmas.{on_reached, reached}
+use Rattle.sys_lookup.proofs.PlayLemmas.{commits_as, item_plays, item_stops_row, step_called}
+use Rattle.sys_tree.proofs.EntryLemmas.{path_plays, path_stops}
 use Rattle.sys_tree.proofs.standing.chdir.Goals as goal
 
 pub returns-in_err-id : goal.returns-in_err-id
 returns-in_err-id c =
     let s = c.args.shared.now in
     let who = c.args.who.now in
-    let same = c.new-caller.ensures.caller in
-    stops_row {rest = on_reached (go_to s who (process_at s who))} c.from_residual.result c.from_residual.ensures.1 refl
-    (step_called (λ k. reached k c.args.path.now) same c.in_err-id.ensures.step)
+    path_stops s who c.new-caller.ensures.caller c.args.path.now (go_to s who (process_at s who)) c.from_residual.result c.from_residual.ensures.1 c.in_err-id.ensures.step
 
 pub returns-in_err-enter : goal.returns-in_err-enter
 returns-in_err-enter c =
@@ -21,7 +19,7 @@ returns-in_err-enter c =
     let same = c.new-caller.ensures.caller in
     let id = c.in_ok-id.id in
     let place = c.in_ok-id.place in
-    then_plays {rest = on_reached (go_to s who (process_at s who))} (step_called (λ k. reached k c.args.path.now) same c.in_ok-id.ensures.step)
+    path_plays s who same c.args.path.now (go_to s who (process_at s who)) c.in_ok-id.ensures.step
     (item_stops_row (enter s (process_at s who) id place) c.from_residual-in_err-enter.result c.from_residual-in_err-enter.ensures.1 refl
     (step_called (λ k rest. enter k.state k.process id place (rest tt)) same c.in_err-enter.ensures.step))
 
@@ -32,6 +30,6 @@ returns c =
     let same = c.new-caller.ensures.caller in
     let id = c.in_ok-id.id in
     let place = c.in_ok-id.place in
-    then_plays {rest = on_reached (go_to s who (process_at s who))} (step_called (λ k. reached k c.args.path.now) same c.in_ok-id.ensures.step)
+    path_plays s who same c.args.path.now (go_to s who (process_at s who)) c.in_ok-id.ensures.step
     (item_plays (enter s (process_at s who) id place) (step_called (λ k rest. enter k.state k.process id place (rest tt)) same c.in_ok-enter.ensures.step)
-    (commits_as c.done.ensures c.stand_in.ensures))
+    (commits_as c.done.ensures c.change_directory.ensures))

@@ -1,6 +1,6 @@
 use Rattle.std.specs.Prelude.{nat_lt}
 use Rattle.std.proofs.Common.{ap, ◌∙◌}
-use Rattle.num_table.specs.Keys.{by_did}
+use Rattle.kern_model.specs.ByNumber.{by_did}
 use Rattle.fd_table.specs.declared.uses.UseCount.{UseCount}
 use Rattle.fd_table.specs.Descriptions.{SharedTable, has_user}
 use Rattle.fd_table.proofs.UseLemmas.{writer-count}

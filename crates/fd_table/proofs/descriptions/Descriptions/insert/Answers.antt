@@ -3,7 +3,7 @@ use Rattle.std.specs.FinMap as map
 use Rattle.std.specs.FinMap.{FinMap}
 use Rattle.std.proofs.Common.{ap, sym, ◌∙◌, subst}
 use Rattle.kern_model.specs.Keys.{oid_cmp}
-use Rattle.num_table.specs.Keys.{by_did}
+use Rattle.kern_model.specs.ByNumber.{by_did}
 use Rattle.fd_table.specs.declared.uses.UseCount.{UseCount}
 use Rattle.fd_table.specs.Descriptions.{AreCounted, SharedTable, made_for}
 use Rattle.kern_model.proofs.KeyLaws.{did_cmp_total, did_cmp_exact}

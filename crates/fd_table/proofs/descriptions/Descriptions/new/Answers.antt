@@ -4,8 +4,8 @@ use Rattle.std.proofs.Common.{ap, sym, ◌∙◌}
 use Rattle.kern_model.specs.Keys.{oid_cmp}
 use Rattle.kern_model.specs.Maps.{get_or}
 use Rattle.kern_model.proofs.KeyLaws.{did_cmp_total, did_cmp_exact}
-use Rattle.num_table.specs.Keys.{by_did}
-use Rattle.num_table.proofs.Keyed.{dids, keyed-empty}
+use Rattle.kern_model.specs.ByNumber.{by_did}
+use Rattle.kern_model.proofs.ByNumber.{dids, by_number-empty}
 use Rattle.fd_table.specs.declared.shared.Shared.{Shared}
 use Rattle.fd_table.specs.declared.uses.UseCount.{UseCount}
 use Rattle.fd_table.specs.Uses.{no_use}
@@ -16,7 +16,7 @@ use Rattle.fd_table.proofs.UseLemmas.{none_used}
 use Rattle.fd_table.proofs.descriptions.Descriptions.new.Goals as goal
 
 pub returns : goal.returns
-returns c = ap (by_did {X = Shared}) c.new.ensures ∙ keyed-empty did_cmp_total did_cmp_exact dids
+returns c = ap (by_did {X = Shared}) c.new.ensures ∙ by_number-empty did_cmp_total did_cmp_exact dids
 
 pub invariant_of-result : goal.invariant_of-result
 invariant_of-result c = λ id.

@@ -3,7 +3,7 @@ use Rattle.std.specs.FinMap as map
 use Rattle.std.proofs.Common.{ap, sym, ◌∙◌, subst, arith}
 use Rattle.std.proofs.lemmas.Bool.Decides.{nat_tests}
 use Rattle.kern_model.specs.declared.numbers.Oid.{Oid}
-use Rattle.num_table.specs.Keys.{by_did}
+use Rattle.kern_model.specs.ByNumber.{by_did}
 use Rattle.fd_table.specs.declared.shared.Shared.{Shared}
 use Rattle.fd_table.specs.Descriptions.{AreCounted, SharedTable, uses_of, with_one_less}
 use Rattle.kern_model.proofs.KeyLaws.{did_cmp_total, did_cmp_exact}

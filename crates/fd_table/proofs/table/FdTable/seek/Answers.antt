@@ -25,8 +25,8 @@ invariant_of-self c =
     let shared = c.self.inside.descriptions in
     let did = c.in_ok-did.did in
     let there = there_with shared did (subst (λ (t : OpenFiles). IsThere t.descriptions did) (sym c.self.view_is) (c.did.ensures.there did c.in_ok-did.ensures.ok_part)) in
-    subst (λ (m : SharedTable). AreHeld c.self.inside.rows m c.self.inside.numbers) (sym (c.set_offset.ensures there.value there.is))
-    (held-moved c.self.inside.rows shared c.self.inside.numbers c.self.invariant did there.value (record there.value { offset = c.in_ok-offset.offset }) there.is refl)
+    subst (λ (m : SharedTable). AreHeld c.self.inside.processes m c.self.inside.numbers) (sym (c.set_offset.ensures there.value there.is))
+    (held-moved c.self.inside.processes shared c.self.inside.numbers c.self.invariant did there.value (record there.value { offset = c.in_ok-offset.offset }) there.is refl)
 
 offset_is : (b : Bool) (x n : ℕ) → Some x ≡ cond b None (Some n) → x ≡ n
 offset_is true x n e = absurd (never_some (Some x) x e refl)
@@ -46,6 +46,6 @@ returns-clause-moved c did d at is =
     ∙ ap (λ n. map.insert (descriptions_of shared) here (record (description_of there.value) { offset = n })) offset
     ∙ ap (λ (x : Description). map.insert (descriptions_of shared) here (record x { offset = unsigned_abs c.args.to })) described
     ∙ ap (λ (q : Did). map.insert (descriptions_of shared) q (record d { offset = unsigned_abs c.args.to })) same in
-    let all : ◌≡◌ {A = OpenFiles} (record { rows = c.self.inside.rows; descriptions = descriptions_of c.set_offset.new.self; numbers = c.self.inside.numbers })
-    (record { rows = c.self.inside.rows; descriptions = map.insert (descriptions_of shared) did (record d { offset = unsigned_abs c.args.to }); numbers = c.self.inside.numbers }) = (λ i. record { rows = c.self.inside.rows; descriptions = descriptions i; numbers = c.self.inside.numbers }) in
+    let all : ◌≡◌ {A = OpenFiles} (record { processes = c.self.inside.processes; descriptions = descriptions_of c.set_offset.new.self; numbers = c.self.inside.numbers })
+    (record { processes = c.self.inside.processes; descriptions = map.insert (descriptions_of shared) did (record d { offset = unsigned_abs c.args.to }); numbers = c.self.inside.numbers }) = (λ i. record { processes = c.self.inside.processes; descriptions = descriptions i; numbers = c.self.inside.numbers }) in
     all ∙ ap (λ (t : OpenFiles). with_offset t did d (unsigned_abs c.args.to)) c.self.view_is

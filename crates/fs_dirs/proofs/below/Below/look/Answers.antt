@@ -1,6 +1,6 @@
 use Rattle.std.proofs.Common.{sym, ◌∙◌, inl, inr}
+use Rattle.std.proofs.lemmas.Result.{on_ok_weaker}
 use Rattle.kern_model.proofs.MapLemmas.{never_some}
-use Rattle.fs_nodes.proofs.Places.{on_ok}
 use Rattle.fs_dirs.specs.Below.{IsUnderDue}
 use Rattle.fs_dirs.specs.Entries.{entries_alone}
 use Rattle.fs_dirs.proofs.BelowLemmas.{child_due, looked}
@@ -18,7 +18,7 @@ returns-in_default-object_at c (inr lies) =
 pub returns : goal.returns
 returns c =
     let s = entries_alone c.args.entries.now in
-    on_ok c.enter-2.result (λ made due. elim due as (λ _. IsUnderDue s c.enter-2.new.self c.args.goal.now) [
+    on_ok_weaker c.enter-2.result (λ made due. elim due as (λ _. IsUnderDue s c.enter-2.new.self c.args.goal.now) [
       | inl given_up ↦ inl (c.enter-2.ensures.complete ∙ c.in_ok-enter.ensures.complete ∙ given_up)
       | inr lies ↦ inr (child_due s c.enter.new.self.due.items c.enter-2.new.self.due.items c.in-Some.due.dir c.in-Some.due.place c.in-Some-object_at.child c.len.result c.args.goal.now
           (sym c.object_at.ensures ∙ c.in-Some-object_at.is) (sym c.same.ensures ∙ c.if-same.false) c.len.ensures made

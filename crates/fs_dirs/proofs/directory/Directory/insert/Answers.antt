@@ -5,7 +5,7 @@ use Rattle.std.proofs.lemmas.Bool.{true≢false}
 use Rattle.fs_dirs.specs.Directory.{AreSorted, IsGap, directory_of}
 use Rattle.fs_dirs.specs.declared.directory.Directory.TheInside.{Inside}
 use Rattle.fs_dirs.specs.declared.slot.Entry.{Entry}
-use Rattle.fs_dirs.proofs.TierLemmas.{at_some}
+use Rattle.kern_model.proofs.LabelMaps.{at_some}
 use Rattle.fs_dirs.proofs.Names.{absent, sorted_over, map_over, sorted_added, map_added}
 use Rattle.fs_dirs.proofs.directory.Directory.insert.Goals as goal
 use Rattle.fs_dirs.proofs.directory.Directory.insert.Goals.{in-Some, in_default}

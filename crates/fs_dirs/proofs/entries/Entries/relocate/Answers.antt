@@ -6,9 +6,9 @@ use Rattle.fs_path.specs.Name.{Name}
 use Rattle.kern_model.specs.declared.numbers.Oid.{Oid}
 use Rattle.kern_model.specs.Keys.{spot_cmp}
 use Rattle.kern_model.proofs.KeyLaws.{spot_cmp_total, spot_cmp_exact}
-use Rattle.fs_dirs.specs.Entries.{AreKept, entries_of}
+use Rattle.fs_dirs.specs.Entries.{AreIndexed, entries_of}
 use Rattle.fs_dirs.proofs.LinkLemmas.{name_there, some_entry}
-use Rattle.fs_dirs.proofs.MoveLemmas.{kept-relocated, relocated_there, remove-insert_other}
+use Rattle.fs_dirs.proofs.MoveLemmas.{indexed-relocated, relocated_there, remove-insert_other}
 use Rattle.fs_dirs.proofs.entries.Entries.relocate.Goals as goal
 
 pub drop_name-requires : goal.drop_name-requires
@@ -37,9 +37,9 @@ invariant_of-self-2 c =
     let moved : entries_of c.remove.new.self ≡ map.insert (map.remove entries (c.args.from.now.dir.now, c.args.from.now.name.now)) (c.args.to.now.dir.now, c.args.to.now.name.now) c.args.id.now =
     c.remove.ensures.removed ∙ ap (λ (m : FinMap spot_cmp Oid). map.remove m (c.args.from.now.dir.now, c.args.from.now.name.now)) (c.in_ok-insert.ensures.ok ∙ ap (λ (n : Name). map.insert entries (c.args.to.now.dir.now, n) c.args.id.now) c.in_ok-copy.ensures)
     ∙ remove-insert_other spot_cmp_total spot_cmp_exact entries (c.args.from.now.dir.now, c.args.from.now.name.now) (c.args.to.now.dir.now, c.args.to.now.name.now) c.requires.apart c.args.id.now in
-    subst (λ n. AreKept (entries_of c.remove.new.self) c.move_name.new.self n) (sym c.without_one-self-inside.ensures)
-    (subst (λ (m : FinMap spot_cmp Oid). AreKept m c.move_name.new.self (cond (is_some w) (c.self.inside.total - 1) c.self.inside.total)) (sym moved)
-    (kept-relocated entries c.args.from.now.dir.now c.args.from.now.name.now c.args.to.now.dir.now c.args.to.now.name.now c.args.id.now there c.requires.apart
+    subst (λ n. AreIndexed (entries_of c.remove.new.self) c.move_name.new.self n) (sym c.without_one-self-inside.ensures)
+    (subst (λ (m : FinMap spot_cmp Oid). AreIndexed m c.move_name.new.self (cond (is_some w) (c.self.inside.total - 1) c.self.inside.total)) (sym moved)
+    (indexed-relocated entries c.args.from.now.dir.now c.args.from.now.name.now c.args.to.now.dir.now c.args.to.now.name.now c.args.id.now there c.requires.apart
     c.self.inside.names c.self.inside.total c.self.invariant w is c.drop_name.new.self c.drop_name.ensures c.move_name.new.self c.move_name.ensures))
 
 pub returns-clause-moved : goal.returns-clause-moved

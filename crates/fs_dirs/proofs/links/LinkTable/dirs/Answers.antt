@@ -3,7 +3,7 @@ use Rattle.std.proofs.Common.{ap, sym, ◌∙◌}
 use Rattle.std.specs.Option.{option_copied}
 use Rattle.std.specs.FinMap as map
 use Rattle.kern_model.specs.declared.numbers.Oid.{Oid}
-use Rattle.fs_nodes.proofs.Rows.{row_absent, row_found}
+use Rattle.kern_model.proofs.ListItems.{list_absent, list_found}
 use Rattle.fs_dirs.specs.Entries.{Holders}
 use Rattle.fs_dirs.proofs.links.LinkTable.dirs.Goals as goal
 
@@ -11,10 +11,10 @@ pub returns-in-Some : goal.returns-in-Some
 returns-in-Some c =
     let label = c.args.id.now.label in
     let is = sym (ap option_copied c.in-Some.is) ∙ c.get.ensures ∙ ap (λ (m : Holders). map.get m label) c.self.view_is in
-    c.dirs.ensures ∙ sym (ap (λ (r : List (List Oid)). get_or r c.args.id.now.n []) (row_found c.args.self.now label c.in-Some.row.now is))
+    c.dirs.ensures ∙ sym (ap (λ (r : List (List Oid)). get_or r c.args.id.now.n []) (list_found c.args.self.now label c.in-Some.list.now is))
 
 pub returns-in-None : goal.returns-in-None
 returns-in-None c =
     let label = c.args.id.now.label in
     let is = sym (ap option_copied c.in-None.is) ∙ c.get.ensures ∙ ap (λ (m : Holders). map.get m label) c.self.view_is in
-    sym (ap (λ (r : List (List Oid)). get_or r c.args.id.now.n []) (row_absent c.args.self.now label is))
+    sym (ap (λ (r : List (List Oid)). get_or r c.args.id.now.n []) (list_absent c.args.self.now label is))

@@ -1,37 +1,22 @@
 use Rattle.std.specs.Prelude.{[], List, get_or}
-use Rattle.std.proofs.Common.{ap, sym, ◌∙◌, subst}
-use Rattle.std.specs.Option.{option_copied_mut}
-use Rattle.std.specs.FinMap as map
+use Rattle.std.proofs.Common.{subst}
 use Rattle.kern_model.specs.declared.numbers.Oid.{Oid}
-use Rattle.kern_model.proofs.LabelMaps.{at_some}
-use Rattle.fs_nodes.proofs.Rows.{row_absent, row_found}
-use Rattle.fs_dirs.specs.Entries.{Holders, IsIn, IsInPlace}
-use Rattle.fs_dirs.proofs.LinkLemmas.{moved_set, never_absent, set_at}
+use Rattle.fs_dirs.specs.Entries.{IsIn}
+use Rattle.fs_dirs.proofs.LentLists.{lent_absent, lent_found, lent_left}
+use Rattle.fs_dirs.proofs.LinkLemmas.{moved_at, never_absent}
 use Rattle.fs_dirs.proofs.links.LinkTable.move_name.Goals as goal
 
 pub unreachable-requires : goal.unreachable-requires
-unreachable-requires c =
-    let label = c.args.id.now.label in
-    let is = sym (ap option_copied_mut c.in_default.is) ∙ c.get_mut.ensures.value ∙ ap (λ (m : Holders). map.get m label) c.self.view_is in
-    never_absent c.args.self.now c.args.id.now c.args.from.now c.requires (row_absent c.args.self.now label is)
+unreachable-requires c = never_absent c.args.self.now c.args.id.now c.args.from.now c.requires (lent_absent c.self.view_is c.args.id.now.label c.in_default.is c.get_mut.ensures.value)
 
 pub put_in_place-requires : goal.put_in_place-requires
 put_in_place-requires c =
-    let label = c.args.id.now.label in
-    let is = sym (ap option_copied_mut c.in-Some.is) ∙ c.get_mut.ensures.value ∙ ap (λ (m : Holders). map.get m label) c.self.view_is in
-    subst (λ (r : List (List Oid)). IsIn c.args.from.now (get_or r c.args.id.now.n [])) (row_found c.args.self.now label c.in-Some.row.now is) c.requires
+    let found = lent_found c.self.view_is c.args.id.now.label c.in-Some.is c.get_mut.ensures.value in
+    subst (λ (r : List (List Oid)). IsIn c.args.from.now (get_or r c.args.id.now.n [])) found c.requires
 
 pub returns : goal.returns
 returns c =
-    let holders = c.args.self.now in
     let id = c.args.id.now in
-    let from = c.args.from.now in
-    let to = c.args.to.now in
-    let row = c.in-Some.row.now in
-    let found = row_found holders id.label row (sym (ap option_copied_mut c.in-Some.is) ∙ c.get_mut.ensures.value ∙ ap (λ (m : Holders). map.get m id.label) c.self.view_is) in
-    let w = c.put_in_place.new.self in
-    let after = c.get_mut.follows.lender w in
-    let made = at_some c.in-Some.is (c.get_mut.follows.holds w) ∙ ap (λ (m : Holders). map.insert m id.label w) c.self.view_is in
-    let dirs = get_or w id.n [] in
-    moved_set holders id dirs after (set_at holders id row found w after made dirs c.put_in_place.ensures.others) from to
-    (subst (λ (r : List (List Oid)). IsInPlace (get_or r id.n []) from to dirs) (sym found) c.put_in_place.ensures.put)
+    let found = lent_found c.self.view_is id.label c.in-Some.is c.get_mut.ensures.value in
+    let left = lent_left c.self.view_is id.label c.put_in_place.new.self c.in-Some.is (c.get_mut.follows.holds c.put_in_place.new.self) in
+    moved_at c.args.self.now id c.put_in_place.new.self found left c.args.from.now c.args.to.now c.put_in_place.ensures.others c.put_in_place.ensures.put

@@ -4,7 +4,7 @@ use Rattle.std.specs.Prelude.{IsSome}
 use Rattle.std.specs.VecDeque.{deque_with_item}
 use Rattle.fs_dirs.specs.declared.tiers.TheConstants.{TIER}
 use Rattle.fs_dirs.specs.Tiers.{Tier}
-use Rattle.fs_dirs.proofs.TierLemmas.{if_some, item_back, item_there, item_tier, item_within, kept_over, on_some, replaced, same_items}
+use Rattle.fs_dirs.proofs.TierLemmas.{if_some, item_back, item_there, item_tier, item_within, tiers_over, on_some, replaced, same_items}
 use Rattle.fs_dirs.proofs.tiers.Tiers.get_mut.Goals as goal
 
 pub invariant_of-self-lent : goal.invariant_of-self-lent
@@ -13,8 +13,8 @@ invariant_of-self-lent g c r =
     let tier = c.in-Some.tier.now in
     let at = c.args.place / TIER in
     let same = ap (λ (t : Tier g.row.T.Denot). length t.items) c.in-Some.ensures.value in (
-      (λ w. kept_over ts c.self.inside.len at (deque_with_item tier (c.args.place % TIER) w) tier c.self.invariant (length-set tier.items (c.args.place % TIER) w ∙ same)),
-      kept_over ts c.self.inside.len at tier tier c.self.invariant same,
+      (λ w. tiers_over ts c.self.inside.len at (deque_with_item tier (c.args.place % TIER) w) tier c.self.invariant (length-set tier.items (c.args.place % TIER) w ∙ same)),
+      tiers_over ts c.self.inside.len at tier tier c.self.invariant same,
     )
 
 pub returns-in-Some : goal.returns-in-Some

@@ -1,24 +1,20 @@
-use Rattle.std.proofs.Common.{ap, sym, ◌∙◌, subst, refl}
-use Rattle.std.specs.FinMap as map
+use Rattle.std.proofs.Common.{sym, subst, refl}
 use Rattle.kern_model.specs.declared.objects.Object.{Object}
 use Rattle.kern_model.specs.Valid.{IsThere}
-use Rattle.fs_nodes.specs.Nodes.{NodeSlots, NodeTable, with_object}
-use Rattle.fs_dirs.specs.Tree.{IsTree, TreeView}
-use Rattle.fs_dirs.proofs.TreeLemmas.{tree_with_object}
+use Rattle.fs_nodes.specs.Nodes.{with_object}
+use Rattle.std.specs.Prelude.{◌≡◌}
+use Rattle.fs_dirs.specs.Tree.{IfObject, TreeView}
+use Rattle.fs_dirs.proofs.TreeLemmas.{tree_set}
 use Rattle.fs_dirs.proofs.tree.Tree.set_attr.Goals as goal
 
 pub set_attr-requires : goal.set_attr-requires
-set_attr-requires c = subst (λ (n : NodeSlots). IsThere n.table.objects c.args.id.now) (ap (λ (t : TreeView). t.nodes) (sym c.self.view_is)) c.requires
+set_attr-requires c = subst (λ (t : TreeView). IsThere t.nodes.table.objects c.args.id.now) (sym c.self.view_is) c.requires
 
 pub invariant_of-self : goal.invariant_of-self
 invariant_of-self c =
-    let here = subst (λ (n : NodeSlots). IsThere n.table.objects c.args.id.now) (ap (λ (t : TreeView). t.nodes) (sym c.self.view_is)) c.requires in
-    let o : Object = here.value in
-    subst (λ (table : NodeTable). IsTree table c.self.inside.entries) (sym (c.set_attr.ensures o here.is))
-    (tree_with_object c.self.inside.nodes.table c.self.inside.entries c.self.invariant c.args.id.now o (record o { attr = c.args.attr }) here.is refl)
+    let here = subst (λ (t : TreeView). IsThere t.nodes.table.objects c.args.id.now) (sym c.self.view_is) c.requires in
+    tree_set c.args.id.now (λ (o : Object). record o { attr = c.args.attr }) here.value c.self.invariant here.is refl (c.set_attr.ensures here.value here.is)
 
 pub returns-clause-attr : goal.returns-clause-attr
-returns-clause-attr c o is =
-    let nodes = ap (λ (t : TreeView). t.nodes) c.self.view_is in
-    c.set_attr.ensures o (ap (λ (n : NodeSlots). map.get n.table.objects c.args.id.now) nodes ∙ is)
-    ∙ ap (λ (n : NodeSlots). with_object n.table c.args.id.now (record o { attr = c.args.attr })) nodes
+returns-clause-attr c =
+    subst (λ (t : TreeView). IfObject t c.args.id.now (λ (o : Object). c.set_attr.new.self.table ≡ with_object t.nodes.table c.args.id.now (record o { attr = c.args.attr }))) c.self.view_is c.set_attr.ensures

@@ -1,5 +1,5 @@
 use Rattle.std.proofs.Common.{ap, ◌∙◌}
-use Rattle.fs_nodes.specs.Rows.{keys_in, numbers_in}
+use Rattle.fs_nodes.specs.Keys.{keys_in, numbers_in}
 use Rattle.fs_nodes.proofs.Keys.{keys_in-empty, numbers_in-empty}
 use Rattle.fs_nodes.proofs.index.Index.new.Goals as goal
 

@@ -1,28 +1,24 @@
-use Rattle.std.specs.Prelude.{List, ℕ, length, min, take, drop, ◌++◌}
-use Rattle.std.proofs.Common.{ap, sym, ◌∙◌, subst}
-use Rattle.std.specs.FinMap as map
+use Rattle.std.specs.Prelude.{length, min, take, drop, ◌++◌}
+use Rattle.std.proofs.Common.{ap, ◌∙◌}
 use Rattle.kern_model.specs.declared.objects.Object.{Object}
-use Rattle.kern_model.specs.Valid.{IsThere}
-use Rattle.fs_nodes.specs.Nodes.{NodeSlots, NodeTable}
-use Rattle.fs_nodes.proofs.Places.{key_there, still_placed, table_set, same_there}
+use Rattle.fs_nodes.specs.Nodes.{with_bytes}
+use Rattle.fs_nodes.proofs.Places.{same_object}
 use Rattle.fs_nodes.proofs.nodes.NodesBuffers.take_bytes.Goals as goal
 
-pub place-requires : goal.place-requires
-place-requires c = key_there c.self.inside.slots c.self.inside.index.keys c.args.id.now (subst (λ (n : NodeSlots). IsThere n.table.objects c.args.id.now) (sym c.self.view_is) (record { value = c.requires.stream.object; is = c.requires.stream.is }))
-
-pub object_at-object-requires : goal.object_at-object-requires
-object_at-object-requires c = c.self.invariant.there c.args.id.now c.place.result c.place.ensures
-
-pub invariant_of-self : goal.invariant_of-self
-invariant_of-self c = still_placed c.self.invariant c.args.id.now c.place.result c.place.ensures _
+pub object_mut-requires : goal.object_mut-requires
+object_mut-requires c = record { value = c.requires.stream.object; is = c.requires.stream.is }
 
 pub returns-clause-count : goal.returns-clause-count
-returns-clause-count c old h = c.take_first.ensures.count ∙ ap (λ (o : Object). min (length o.bytes) (length c.args.buf.now)) (same_there c.args.id.now c.place.result c.place.ensures c.object_at-object.result.now old c.object_at-object.ensures.value c.args.self.now c.self.view_is h)
+returns-clause-count c = λ o there. c.take_first.ensures.count
+    ∙ ap (λ (x : Object). min (length x.bytes) (length c.args.buf.now)) (same_object c.args.self.now.table.objects c.args.id.now c.object_mut.result.now o c.object_mut.ensures.value there)
 
 pub returns-clause-taken : goal.returns-clause-taken
-returns-clause-taken c old h = c.take_first.ensures.taken ∙ ap (λ (o : Object). take c.take_first.result o.bytes ++ drop c.take_first.result c.args.buf.now) (same_there c.args.id.now c.place.result c.place.ensures c.object_at-object.result.now old c.object_at-object.ensures.value c.args.self.now c.self.view_is h)
+returns-clause-taken c = λ o there. c.take_first.ensures.taken
+    ∙ ap (λ (x : Object). take c.take_first.result x.bytes ++ drop c.take_first.result c.args.buf.now)
+    (same_object c.args.self.now.table.objects c.args.id.now c.object_mut.result.now o c.object_mut.ensures.value there)
 
 pub returns-clause-left : goal.returns-clause-left
-returns-clause-left c old h =
-    ap (λ (t : NodeTable). t.objects) (table_set c.self.invariant c.args.id.now c.place.result c.place.ensures (λ (o : Object). record o { bytes = c.take_first.new.self }) c.object_at-object.result.now old c.object_at-object.ensures.value c.args.self.now c.self.view_is h)
-    ∙ ap (λ (bytes : List ℕ). map.insert c.args.self.now.table.objects c.args.id.now (record old { bytes = bytes })) (c.take_first.ensures.rest ∙ ap (λ (o : Object). drop c.take_first.result o.bytes) (same_there c.args.id.now c.place.result c.place.ensures c.object_at-object.result.now old c.object_at-object.ensures.value c.args.self.now c.self.view_is h))
+returns-clause-left c = λ o there.
+    ap (with_bytes c.args.self.now.table.objects c.args.id.now c.object_mut.result.now) c.take_first.ensures.rest
+    ∙ ap (λ (x : Object). with_bytes c.args.self.now.table.objects c.args.id.now x (drop c.take_first.result x.bytes))
+    (same_object c.args.self.now.table.objects c.args.id.now c.object_mut.result.now o c.object_mut.ensures.value there)

@@ -28,12 +28,12 @@ start-requires-clause-valid c =
 
 pub returns-clause-state : goal.returns-clause-state
 returns-clause-state c =
-    let furnishes = c.in_ok-shared.ensures in
+    let loaded_is = c.in_ok-shared.ensures in
     let procs : c.items.result.now ≡ c.args.world.now.procs = c.items.ensures in
-    subst (λ (t : State). IfOk c.start.result (λ b. state_of b.0 ≡ t)) (λ i. boot_processes (furnishes i) (procs i)) c.start.ensures.state
+    subst (λ (t : State). IfOk c.start.result (λ b. state_of b.0 ≡ t)) (λ i. boot_processes (loaded_is i) (procs i)) c.start.ensures.state
 
 pub returns-clause-recs : goal.returns-clause-recs
 returns-clause-recs c =
-    let furnishes = c.in_ok-shared.ensures in
+    let loaded_is = c.in_ok-shared.ensures in
     let procs : c.items.result.now ≡ c.args.world.now.procs = c.items.ensures in
-    subst (λ (rs : List Rec). IfOk c.start.result (λ b. b.1 ≡ rs)) (λ i. started (furnishes i) (procs i)) c.start.ensures.recs
+    subst (λ (rs : List Rec). IfOk c.start.result (λ b. b.1 ≡ rs)) (λ i. started (loaded_is i) (procs i)) c.start.ensures.recs

@@ -13,7 +13,7 @@ returns c =
     (λ i. record {
       objects = (c.in_ok-load.ensures.nodes i).table.objects;
       entries = c.in_ok-load.ensures.entries i;
-      procs = with_fds (c.new-2.ensures i).procs (c.new.ensures i).rows;
+      procs = with_fds (c.new-2.ensures i).procs (c.new.ensures i).processes;
       descriptions = (c.new.ensures i).descriptions;
       object_numbers = (c.in_ok-load.ensures.nodes i).table.numbers;
       process_numbers = (c.new-2.ensures i).numbers;
@@ -24,4 +24,4 @@ returns c =
     ∙ (λ i. record s { procs = with_fds-none map.empty i })
 
 pub invariant_of-result : goal.invariant_of-result
-invariant_of-result c = owners_none c.new-2.result.procs c.new.result.rows (ap (λ (t : OpenFiles). t.rows) c.new.ensures)
+invariant_of-result c = owners_none c.new-2.result.procs c.new.result.processes (ap (λ (t : OpenFiles). t.processes) c.new.ensures)

@@ -5,7 +5,7 @@ use Rattle.lab_engine.specs.Readable.{AreReadable}
 use Rattle.lab_engine.specs.Playing.{SendsAll, StopsBy, ends}
 use Rattle.lab_engine.specs.Report.{call_sends}
 use Rattle.lab_engine.specs.Reporter.{call_on}
-use Rattle.lab_engine.proofs.KeptLemmas.{from_equal, kept_saw, kept_stopped}
+use Rattle.lab_engine.proofs.HeldReports.{from_equal, held_seen, held_stopped}
 use Rattle.lab_engine.proofs.reporter.Reporter.report_call.Goals as goal
 
 pub invariant_of-self : goal.invariant_of-self
@@ -16,7 +16,7 @@ invariant_of-self g c =
     let call = call_on c.args.line.line.now c.args.line.at c.args.outcome.now in
     let sent = from_equal g.K.Sink.view g.T.Sink.view (λ policy out trail. SendsAll (call_sends now.report policy c.args.number call) (ends 0 out trail) later) _ _ _ _ _ _ w.policy w.out w.trail (c.in-Ok.ensures.writes 0) in
     let own = subst (λ (policy : PolicyNames). now.report ≡ All → AreReadable policy c.args.number c.args.outcome.now.recs) w.policy c.in-Ok.ensures.readable in
-    record { kept = kept_saw g.K.Sink.view g.T.Sink.view _ now.texts.policy.now now.report _ _ _ _ c.requires.going c.args.number c.requires.number c.args.line.line.now c.args.line.at c.args.outcome.now _ _ _ _ now.kept c.with-self.ensures c.in-Ok.ensures.report own sent }
+    record { kept = held_seen g.K.Sink.view g.T.Sink.view _ now.texts.policy.now now.report _ _ _ _ c.requires.going c.args.number c.requires.number c.args.line.line.now c.args.line.at c.args.outcome.now _ _ _ _ now.kept c.with-self.ensures c.in-Ok.ensures.report own sent }
 
 pub invariant_of-self-in-Err : goal.invariant_of-self-in-Err
 invariant_of-self-in-Err g c =
@@ -25,7 +25,7 @@ invariant_of-self-in-Err g c =
     let later = ends 0 (g.K.Sink.view c.write_call.new.self.out.now) (g.T.Sink.view c.write_call.new.self.trail.now) in
     let call = call_on c.args.line.line.now c.args.line.at c.args.outcome.now in
     let stop = from_equal g.K.Sink.view g.T.Sink.view (λ policy out trail. StopsBy c.in-Err.fault (call_sends now.report policy c.args.number call) (ends 0 out trail) later) _ _ _ _ _ _ w.policy w.out w.trail (c.in-Err.ensures.writes 0) in
-    record { kept = kept_stopped g.K.Sink.view g.T.Sink.view _ now.texts.policy.now now.report _ _ _ _ c.requires.going c.args.number c.requires.number c.args.line.line.now c.args.line.at c.args.outcome.now _ _ _ _ _ now.kept c.with-self-in-Err.ensures stop }
+    record { kept = held_stopped g.K.Sink.view g.T.Sink.view _ now.texts.policy.now now.report _ _ _ _ c.requires.going c.args.number c.requires.number c.args.line.line.now c.args.line.at c.args.outcome.now _ _ _ _ _ now.kept c.with-self-in-Err.ensures stop }
 
 pub returns-in-Ok-clause-writes : goal.returns-in-Ok-clause-writes
 returns-in-Ok-clause-writes g c = λ source.

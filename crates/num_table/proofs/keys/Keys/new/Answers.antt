@@ -1,6 +1,6 @@
 use Rattle.std.proofs.Common.{ap, ◌∙◌}
-use Rattle.num_table.specs.Rows.{items_in}
-use Rattle.num_table.proofs.Rows.{items_in-empty}
+use Rattle.kern_model.specs.LabelLists.{items_in}
+use Rattle.kern_model.proofs.ListItems.{items_in-empty}
 use Rattle.num_table.proofs.keys.Keys.new.Goals as goal
 
 pub returns : goal.returns

@@ -3,10 +3,10 @@ use Rattle.std.specs.FinMap as map
 use Rattle.std.specs.FinMap.{FinMap}
 use Rattle.std.proofs.Common.{ap, sym, subst, ◌∙◌}
 use Rattle.slab.specs.Slab.{Updates}
-use Rattle.num_table.specs.Numbers.{Num, num_cmp}
+use Rattle.kern_model.specs.Numbers.{Num, num_cmp}
 use Rattle.num_table.specs.Slots.{IsPlaced, values_in}
 use Rattle.num_table.proofs.Outcomes.{where_err}
-use Rattle.num_table.proofs.NumberLaws.{num_cmp_exact, num_cmp_total}
+use Rattle.kern_model.proofs.NumberLaws.{num_cmp_exact, num_cmp_total}
 use Rattle.num_table.proofs.Slots.{absent_key, added_placed, added_value, reserved, reserved_values}
 use Rattle.num_table.proofs.table.Table.add.Goals as goal
 

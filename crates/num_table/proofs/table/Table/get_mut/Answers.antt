@@ -5,10 +5,10 @@ use Rattle.std.specs.FinMap.{FinMap}
 use Rattle.std.proofs.Common.{ap, refl, subst, sym, ◌∙◌}
 use Rattle.kern_model.proofs.LabelMaps.{at_none}
 use Rattle.slab.specs.Slab.{with_value}
-use Rattle.num_table.specs.Numbers.{Num, num_cmp}
+use Rattle.kern_model.specs.Numbers.{Num, num_cmp}
 use Rattle.num_table.specs.Slots.{IsPlaced, values_in}
 use Rattle.num_table.proofs.Outcomes.{always}
-use Rattle.num_table.proofs.NumberLaws.{num_cmp_exact, num_cmp_total}
+use Rattle.kern_model.proofs.NumberLaws.{num_cmp_exact, num_cmp_total}
 use Rattle.num_table.proofs.Slots.{no_value, replaced_placed, replaced_value, value_at}
 use Rattle.num_table.proofs.table.Table.get_mut.Goals as goal
 

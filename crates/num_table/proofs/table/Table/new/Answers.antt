@@ -1,9 +1,9 @@
 use Rattle.std.specs.Prelude.{ℕ, count_by, is_some}
 use Rattle.std.specs.FinMap.{FinMap}
 use Rattle.std.proofs.Common.{ap, sym, subst, ◌∙◌}
-use Rattle.num_table.specs.Numbers.{num_cmp}
+use Rattle.kern_model.specs.Numbers.{num_cmp}
 use Rattle.num_table.specs.Slots.{IsPlaced, values_in}
-use Rattle.num_table.proofs.NumberLaws.{num_cmp_exact, num_cmp_total}
+use Rattle.kern_model.proofs.NumberLaws.{num_cmp_exact, num_cmp_total}
 use Rattle.num_table.proofs.Slots.{none_placed, none_there}
 use Rattle.num_table.proofs.table.Table.new.Goals as goal
 

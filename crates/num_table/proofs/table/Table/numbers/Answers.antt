@@ -2,8 +2,8 @@ use Rattle.std.specs.FinMap as map
 use Rattle.std.specs.FinMap.{FinMap}
 use Rattle.std.proofs.Common.{ap, sym, ◌∙◌}
 use Rattle.std.proofs.lemmas.Result.{IfOk-weaker}
-use Rattle.num_table.specs.Numbers.{num_cmp}
-use Rattle.num_table.proofs.NumberLaws.{num_cmp_exact, num_cmp_total}
+use Rattle.kern_model.specs.Numbers.{num_cmp}
+use Rattle.kern_model.proofs.NumberLaws.{num_cmp_exact, num_cmp_total}
 use Rattle.num_table.proofs.Slots.{keys-values_in}
 use Rattle.num_table.proofs.table.Table.numbers.Goals as goal
 

@@ -2,9 +2,9 @@ use Rattle.std.specs.Prelude.{ℕ}
 use Rattle.std.specs.FinMap as map
 use Rattle.std.specs.FinMap.{FinMap}
 use Rattle.std.proofs.Common.{ap, sym, subst, ◌∙◌}
-use Rattle.num_table.specs.Numbers.{Num, num_cmp}
+use Rattle.kern_model.specs.Numbers.{Num, num_cmp}
 use Rattle.num_table.specs.Slots.{IsPlaced, values_in}
-use Rattle.num_table.proofs.NumberLaws.{num_cmp_exact, num_cmp_total}
+use Rattle.kern_model.proofs.NumberLaws.{num_cmp_exact, num_cmp_total}
 use Rattle.num_table.proofs.Slots.{absent_removed, no_value, removed_placed, removed_value, same_keys, value_at}
 use Rattle.num_table.proofs.table.Table.remove.Goals as goal
 

@@ -6,10 +6,11 @@ use Rattle.std.proofs.lemmas.Result.{on_err_weaker, on_ok_weaker}
 use Rattle.kern_model.specs.Keys.{pid_cmp}
 use Rattle.kern_model.specs.declared.numbers.Pid.{Pid}
 use Rattle.kern_model.proofs.KeyLaws.{pid_cmp_total, pid_cmp_exact}
-use Rattle.kern_model.proofs.MapLemmas.{get_or-absent, get_or-found, insert-same}
-use Rattle.num_table.specs.Keys.{by_pid}
-use Rattle.num_table.specs.Numbers.{num_cmp}
+use Rattle.kern_model.proofs.MapLemmas.{insert-same}
+use Rattle.kern_model.specs.ByNumber.{by_pid}
+use Rattle.kern_model.specs.Numbers.{num_cmp}
 use Rattle.num_table.proofs.Outcomes.{at_some}
+use Rattle.proc_table.proofs.PositionLemmas.{list_absent, list_found}
 use Rattle.proc_table.proofs.child_lists.ChildLists.push.Goals as goal
 
 pub returns-in-Some-clause-ok : goal.returns-in-Some-clause-ok
@@ -17,7 +18,7 @@ returns-in-Some-clause-ok c =
     let lists = c.args.self.now in
     let parent = c.args.parent.now in
     let child = c.args.child.now in
-    let is = get_or-found lists parent [] c.in-Some.list.now (sym (c.in-Some.ensures.value ∙ ap (λ (m : FinMap pid_cmp (List Pid)). map.get m parent) c.self.view_is)) in
+    let is = list_found (by_pid c.self.inside.by_parent) lists c.self.view_is parent c.in-Some.list.now c.in-Some.ensures.value in
     on_ok_weaker c.push.result
     (λ pushed.
     at_some c.in-Some.is (c.get_mut_at.follows.holds c.push.new.self) ∙ ap (λ (m : FinMap pid_cmp (List Pid)). map.insert m parent c.push.new.self) c.self.view_is
@@ -41,7 +42,7 @@ returns-clause-ok c =
     let parent = c.args.parent.now in
     let child = c.args.child.now in
     let list = c.new.result in
-    let none = get_or-absent lists parent [] (sym (c.in_default.ensures.value ∙ ap (λ (m : FinMap pid_cmp (List Pid)). map.get m parent) c.self.view_is)) in
+    let none = list_absent (by_pid c.self.inside.by_parent) lists c.self.view_is parent c.in_default.ensures.value in
     on_ok_weaker c.set_at.result
     (λ set.
     set ∙ ap (λ (m : FinMap num_cmp (List Pid)). map.insert (by_pid m) parent list) c.get_mut_at.follows.holds-at-none ∙ ap (λ (m : FinMap pid_cmp (List Pid)). map.insert m parent list) c.self.view_is

@@ -6,7 +6,7 @@ use Rattle.kern_model.specs.declared.numbers.Pid.{Pid}
 use Rattle.kern_model.specs.Keys.{pid_cmp, same_pid}
 use Rattle.kern_model.proofs.KeyLaws.{pid_cmp_total, pid_cmp_exact}
 use Rattle.kern_model.proofs.MapLemmas.{remove-insert}
-use Rattle.num_table.specs.Keys.{by_pid}
+use Rattle.kern_model.specs.ByNumber.{by_pid}
 use Rattle.proc_table.specs.declared.positions.Position.{Position}
 use Rattle.proc_table.specs.Children.{AreInPlace, ChildIndex, is_child}
 use Rattle.proc_table.proofs.PositionLemmas.{absent_position, added, added_child, as_added}

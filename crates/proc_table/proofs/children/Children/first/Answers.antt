@@ -1,7 +1,7 @@
 use Rattle.std.specs.Prelude.{true, false, MatchOption}
 use Rattle.std.proofs.Common.{◌≡◌, subst}
 use Rattle.kern_model.specs.declared.numbers.Pid.{Pid}
-use Rattle.num_table.specs.Keys.{by_pid}
+use Rattle.kern_model.specs.ByNumber.{by_pid}
 use Rattle.proc_table.specs.Children.{ChildIndex, is_child}
 use Rattle.proc_table.proofs.PositionLemmas.{first_is}
 use Rattle.proc_table.proofs.children.Children.first.Goals as goal

@@ -5,16 +5,16 @@ use Rattle.std.proofs.Common.{◌≡◌, ap, sym, ◌∙◌, subst}
 use Rattle.kern_model.specs.declared.numbers.Pid.{Pid}
 use Rattle.kern_model.specs.Keys.{pid_cmp}
 use Rattle.kern_model.proofs.KeyLaws.{pid_cmp_total, pid_cmp_exact}
-use Rattle.num_table.specs.Keys.{by_pid}
-use Rattle.num_table.specs.Numbers.{num_cmp}
-use Rattle.num_table.proofs.Keyed.{keyed-empty, pids}
+use Rattle.kern_model.specs.ByNumber.{by_pid}
+use Rattle.kern_model.specs.Numbers.{num_cmp}
+use Rattle.kern_model.proofs.ByNumber.{by_number-empty, pids}
 use Rattle.proc_table.specs.declared.positions.Position.{Position}
 use Rattle.proc_table.specs.Children.{AreInPlace, is_child}
 use Rattle.proc_table.proofs.PositionLemmas.{no_children, none_placed}
 use Rattle.proc_table.proofs.children.Children.new.Goals as goal
 
 none : (positions : FinMap num_cmp Position) → positions ≡ map.empty → by_pid positions ≡ map.empty
-none positions is = ap (by_pid {X = Position}) is ∙ keyed-empty pid_cmp_total pid_cmp_exact pids
+none positions is = ap (by_pid {X = Position}) is ∙ by_number-empty pid_cmp_total pid_cmp_exact pids
 
 pub invariant_of-result : goal.invariant_of-result
 invariant_of-result c =

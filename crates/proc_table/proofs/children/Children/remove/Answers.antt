@@ -7,7 +7,7 @@ use Rattle.std.proofs.lemmas.Option.{slice_get_within}
 use Rattle.kern_model.specs.Keys.{pid_cmp, same_pid}
 use Rattle.kern_model.proofs.KeyLaws.{pid_cmp_total, pid_cmp_exact}
 use Rattle.kern_model.proofs.MapLemmas.{remove-absent}
-use Rattle.num_table.specs.Keys.{by_pid}
+use Rattle.kern_model.specs.ByNumber.{by_pid}
 use Rattle.proc_table.specs.declared.positions.Position.{Position}
 use Rattle.proc_table.specs.Children.{AreInPlace, ChildIndex, child_count, is_child, list_at}
 use Rattle.proc_table.proofs.PositionLemmas.{can_change, gone_child, last_gone, moved_child, moved_there, no_parent, one_less}

@@ -3,7 +3,7 @@ use Rattle.std.specs.FinMap.{FinMap}
 use Rattle.std.proofs.Common.{refl, ap, ◌∙◌}
 use Rattle.kern_model.specs.Keys.{pid_cmp}
 use Rattle.kern_model.specs.State.{Process}
-use Rattle.num_table.specs.Keys.{by_pid}
+use Rattle.kern_model.specs.ByNumber.{by_pid}
 use Rattle.num_table.proofs.Outcomes.{lent_then}
 use Rattle.proc_table.proofs.living.Living.get_mut.Goals as goal
 

@@ -2,7 +2,7 @@ use Rattle.std.proofs.Common.{◌≡◌, ◌++◌}
 use Rattle.std.specs.Prelude.{map as map_list}
 use Rattle.std.specs.Vec.Iter.{into_iter_items}
 use Rattle.std.specs.FinMap as map
-use Rattle.num_table.specs.Keys.{pid_at}
+use Rattle.kern_model.specs.ByNumber.{pid_at}
 use Rattle.proc_table.proofs.living.Living.numbers.Given as goal
 
 -- the numbers so far and those that are left

@@ -8,10 +8,10 @@ use Rattle.sys_lookup.proofs.caller.Caller.find.Goals.{In_ok-process}
 use Rattle.sys_lookup.proofs.caller.Caller.find.Goals as goal
 
 -- the process that was found, with its descriptors
-there : (c : In_ok-process) → map.get c.args.shared.now.procs c.args.who.now ≡ Some (holding c.shared.inside.fds.rows c.args.who.now c.in_ok-process.process.now)
+there : (c : In_ok-process) → map.get c.args.shared.now.procs c.args.who.now ≡ Some (holding c.shared.inside.fds.processes c.args.who.now c.in_ok-process.process.now)
 there c =
     let h = c.shared.inside in
-    ap (λ (s : State). map.get s.procs c.args.who.now) (sym c.shared.view_is) ∙ found h.procs.procs h.fds.rows c.args.who.now c.in_ok-process.process.now (sym c.find.ensures ∙ ap option_copied c.in_ok-process.was)
+    ap (λ (s : State). map.get s.procs c.args.who.now) (sym c.shared.view_is) ∙ found h.procs.procs h.fds.processes c.args.who.now c.in_ok-process.process.now (sym c.find.ensures ∙ ap option_copied c.in_ok-process.was)
 
 pub returns : goal.returns
 returns c =
@@ -27,4 +27,4 @@ pub returns-in_err-process : goal.returns-in_err-process
 returns-in_err-process c =
     let h = c.shared.inside in
     none_match _ c.from_residual.ensures
-    (ap (λ (s : State). map.get s.procs c.args.who.now) (sym c.shared.view_is) ∙ not_found h.procs.procs h.fds.rows c.args.who.now (sym c.find.ensures ∙ ap option_copied c.in_err-process.was))
+    (ap (λ (s : State). map.get s.procs c.args.who.now) (sym c.shared.view_is) ∙ not_found h.procs.procs h.fds.processes c.args.who.now (sym c.find.ensures ∙ ap option_copied c.in_err-process.was))

@@ -7,7 +7,7 @@ use Rattle.kern_model.specs.Row.{Row, Soft}
 use Rattle.kern_model.specs.Rules.{fsetid, is_plain}
 use Rattle.kern_model.specs.State.{State, object_at}
 use Rattle.chk_rules.specs.CheckLog.{CheckLog}
-use Rattle.chk_rules.specs.Ends.{GoesOn}
+use Rattle.chk_rules.specs.RowSteps.{GoesOn}
 use Rattle.chk_rules.specs.declared.stop.Stop.{Stop}
 use Rattle.chk_rules.proofs.Steps.{then_goes, stops_there, gives}
 use Rattle.sys_lookup.specs.declared.shared.Metadata.{Metadata}
@@ -38,4 +38,4 @@ pub returns-else-branch : goal.returns-else-branch
 returns-else-branch c = λ s id same.
     let attr = (object_at s id).attr in
     then_goes {next = staying s id} (asked _ _ _ s id c.args.place c.args.file.now _ c.is_plain.ensures same (c.in_ok-fsetid.ensures s id same))
-    (gives (c.cleared.ensures ∙ ap (λ (m : Metadata). cleared m.attr) same ∙ sym (ap (λ b. cond b attr (cleared attr)) c.if-branch.false)))
+    (gives (c.plain_attr.ensures ∙ ap (λ (m : Metadata). cleared m.attr) same ∙ sym (ap (λ b. cond b attr (cleared attr)) c.if-branch.false)))

@@ -1,6 +1,6 @@
 use Rattle.std.proofs.Common.{subst}
 use Rattle.kern_model.specs.Walk.{enter, or_missing}
-use Rattle.chk_rules.specs.Ends.{GoesOn}
+use Rattle.chk_rules.specs.RowSteps.{GoesOn}
 use Rattle.chk_rules.proofs.Steps.{item_goes, item_stops}
 use Rattle.sys_lookup.proofs.caller.Caller.pass.Goals as goal
 

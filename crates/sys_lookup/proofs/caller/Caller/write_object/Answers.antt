@@ -4,10 +4,8 @@ use Rattle.sys_lookup.proofs.caller.Caller.write_object.Goals as goal
 
 pub returns-in_err-mac_write-clause-step : goal.returns-in_err-mac_write-clause-step
 returns-in_err-mac_write-clause-step c =
-    let s = c.args.self.now.state in
-    need_stops {part = λ rest. rest (metadata_of s c.args.id.now)} c.from_residual.result c.from_residual.ensures.1 (c.in_err-mac_write.ensures s c.args.id.now c.metadata-object.ensures)
+    need_stops {part = λ rest. rest (metadata_of c.args.self.now.state c.args.id.now)} c.from_residual.result c.from_residual.ensures.1 (c.in_err-mac_write.ensures c.args.self.now.state c.args.id.now c.metadata-object.ensures)
 
 pub returns-clause-step : goal.returns-clause-step
 returns-clause-step c =
-    let s = c.args.self.now.state in
-    need_goes {part = λ rest. rest (metadata_of s c.args.id.now)} (c.in_ok-mac_write.ensures s c.args.id.now c.metadata-object.ensures) (gives c.metadata-object.ensures)
+    need_goes {part = λ rest. rest (metadata_of c.args.self.now.state c.args.id.now)} (c.in_ok-mac_write.ensures c.args.self.now.state c.args.id.now c.metadata-object.ensures) (gives c.metadata-object.ensures)

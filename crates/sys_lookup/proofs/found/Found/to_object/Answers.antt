@@ -1,6 +1,6 @@
 use Rattle.std.proofs.Common.{sym, subst}
 use Rattle.kern_model.specs.Walk.{to_object}
-use Rattle.chk_rules.specs.Ends.{GoesOn}
+use Rattle.chk_rules.specs.RowSteps.{GoesOn}
 use Rattle.sys_lookup.specs.Walks.{found_of}
 use Rattle.sys_lookup.specs.declared.found.Found.{Found}
 use Rattle.sys_lookup.proofs.WalkLemmas.{entry_leads}

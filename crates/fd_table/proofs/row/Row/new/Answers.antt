@@ -1,5 +1,0 @@
-use Rattle.fd_table.proofs.Slots.{no_fds}
-use Rattle.fd_table.proofs.row.Row.new.Goals as goal
-
-pub returns : goal.returns
-returns c = no_fds _ _ _ 32 c.new.ensures

@@ -1,0 +1,168 @@
+-- What the ends of a reporter hold, as it sees more calls.
+use Rattle.std.proofs.Common.{◌≡◌, ℕ, ◌+◌, List, [], ◌∷◌, ◌++◌, length, refl, sym, ◌∙◌, ap, subst, append_assoc, arith, rules, map}
+use Rattle.std.proofs.lemmas.List.{append-nil}
+use Rattle.std.proofs.Math.Logic.{∥∥₁_map}
+use Rattle.io_ends.specs.Ends.{SinkView}
+use Rattle.std.specs.List.{AllByRecursion}
+use Rattle.iso_laws.proofs.AllLemmas.{all-append}
+use Rattle.kern_model.specs.declared.records.Outcome.{Outcome}
+use Rattle.kern_model.specs.declared.records.Rec.{Rec}
+use Rattle.kern_model.specs.Run.{CallRecord}
+use Rattle.lab_text.specs.Policy.{PolicyNames}
+use Rattle.script_text.specs.declared.line.Line.{Line}
+use Rattle.lab_engine.specs.declared.ending.Fault.{Fault}
+use Rattle.lab_engine.specs.declared.reporting.Report.{Report}
+use Rattle.lab_engine.specs.declared.reporting.Report.TheVariants.{All}
+use Rattle.lab_engine.specs.Order.{Sent}
+use Rattle.lab_engine.specs.Playing.{Ends, Sends, SendsAll, StopsBy, ends}
+use Rattle.lab_engine.specs.Readable.{AreReadable, IsReadable}
+use Rattle.lab_engine.specs.Report.{call_sends, report_after, report_after_call, reported}
+use Rattle.lab_engine.specs.Reporter.{HoldReports, HoldReportsSince, call_on, calls_seen}
+use Rattle.lab_engine.specs.Session.{numbered_from}
+use Rattle.lab_engine.proofs.ReadableLemmas.{with_numbers}
+use Rattle.lab_engine.proofs.ReportLemmas.{all_stays}
+use Rattle.lab_engine.proofs.SeenLemmas.{one_more, only_one}
+use Rattle.lab_engine.proofs.Sending.{all_nothing, sends_more}
+
+-- ---- calls, and those after them
+
+after_calls : (r : Report) (ps more : List CallRecord) → report_after r (ps ++ more) ≡ report_after (report_after r ps) more
+unfolding report_after
+after_calls r [] more = refl
+after_calls r (p ∷ ps) more = after_calls (report_after_call r p) ps more
+
+reported_calls : (policy : PolicyNames) (r : Report) (n : ℕ) (ps more : List CallRecord) → reported r policy n (ps ++ more) ≡ reported r policy n ps ++ reported (report_after r ps) policy (n + length ps) more
+unfolding reported report_after
+reported_calls policy r n [] more = let none : n ≡ n + 0 = omega arith in ap (λ k. reported r policy k more) none
+reported_calls policy r n (p ∷ ps) more =
+    let q = report_after_call r p in
+    let later : (n + 1) + length ps ≡ n + length (p ∷ ps) = omega arith in
+    ap (λ (o : List Sent). call_sends r policy n p ++ o) (reported_calls policy q (n + 1) ps more)
+    ∙ sym (append_assoc (call_sends r policy n p) (reported q policy (n + 1) ps) (reported (report_after q ps) policy ((n + 1) + length ps) more))
+    ∙ ap (λ k. (call_sends r policy n p ++ reported q policy (n + 1) ps) ++ reported (report_after q ps) policy k more) later
+
+numbered_calls : (n : ℕ) (ps : List CallRecord) (p : CallRecord) → numbered_from n (ps ++ p ∷ []) ≡ numbered_from n ps ++ map (λ (r : Rec). (n + length ps, r)) p.recs
+numbered_calls n [] p =
+    let none : n ≡ n + 0 = omega arith in
+    append-nil (map (λ (r : Rec). (n, r)) p.recs) ∙ ap (λ k. map (λ (r : Rec). (k, r)) p.recs) none
+numbered_calls n (q ∷ qs) p =
+    let later : (n + 1) + length qs ≡ n + length (q ∷ qs) = omega arith in
+    let first = map (λ (r : Rec). (n, r)) q.recs in
+    ap (λ (rs : List (ℕ × Rec)). first ++ rs) (numbered_calls (n + 1) qs p)
+    ∙ sym (append_assoc first (numbered_from (n + 1) qs) (map (λ (r : Rec). ((n + 1) + length qs, r)) p.recs))
+    ∙ ap (λ k. (first ++ numbered_from (n + 1) qs) ++ map (λ (r : Rec). (k, r)) p.recs) later
+
+-- ---- one more call
+
+-- no call was seen
+held_at_start : (policy : PolicyNames) (r : Report) (e : Ends) → HoldReports policy r r [] [] e e
+unfolding reported report_after
+held_at_start policy r e = record { front = []; rest = []; next = refl; sends = (all_nothing e).sends; report = λ _. refl; readable = λ _. tt; one = omega arith }
+
+-- a prefix of nothing
+none_before : (front rest : List Sent) → [] ≡ front ++ rest → front ≡ []
+none_before [] rest is = refl
+none_before (x ∷ front) rest is = grind rules
+
+no_call : (p : CallRecord) → p ∷ [] ≡ [] → ⊥
+no_call p is = grind rules
+
+module _ (policy : PolicyNames) (first now : Report) (seen stopped : List CallRecord) (before after : Ends) (k : HoldReports policy first now seen stopped before after) (none : stopped ≡ []) where
+  -- no call was stopped so far
+  whole : reported first policy 1 seen ++ k.front ≡ reported first policy 1 seen
+  unfolding reported
+  whole =
+      ap (λ (o : List Sent). reported first policy 1 seen ++ o) (none_before k.front k.rest (sym (ap (reported (report_after first seen) policy (length seen + 1)) none) ∙ k.next))
+      ∙ append-nil (reported first policy 1 seen)
+
+  sent : Sends (reported first policy 1 seen) before after
+  sent = subst (λ (o : List Sent). Sends o before after) whole k.sends
+
+  module _ (n : ℕ) (is : n ≡ length seen + 1) (p : CallRecord) where
+    -- what is reported of the next call
+    next_call : call_sends now policy n p ≡ reported (report_after first seen) policy (length seen + 1) (p ∷ [])
+    unfolding reported
+    next_call =
+        ap (λ (r : Report). call_sends r policy n p) (k.report none)
+        ∙ ap (λ m. call_sends (report_after first seen) policy m p) is
+        ∙ sym (append-nil (call_sends (report_after first seen) policy (length seen + 1) p))
+
+    with_call : reported first policy 1 seen ++ call_sends now policy n p ≡ reported first policy 1 (seen ++ p ∷ []) ++ []
+    with_call =
+        let later : length seen + 1 ≡ 1 + length seen = omega arith in
+        ap (λ (o : List Sent). reported first policy 1 seen ++ o) (next_call ∙ ap (λ m. reported (report_after first seen) policy m (p ∷ [])) later)
+        ∙ sym (reported_calls policy first 1 seen (p ∷ []))
+        ∙ sym (append-nil (reported first policy 1 (seen ++ p ∷ [])))
+
+    -- its records are readable, as those before it
+    records_more : (first ≡ All) → (now ≡ All → AreReadable policy n p.recs) → AllByRecursion (IsReadable policy) (numbered_from 1 (seen ++ p ∷ []))
+    records_more all own =
+        let place : n ≡ 1 + length seen = omega (arith, is) in
+        let recs = subst (λ m. AllByRecursion (IsReadable policy) (map (λ (r : Rec). (m, r)) p.recs)) place (with_numbers policy n p.recs (own (k.report none ∙ all_stays first seen all))) in
+        subst (AllByRecursion (IsReadable policy)) (sym (numbered_calls 1 seen p)) (all-append (IsReadable policy) (numbered_from 1 seen) _ (k.readable all) recs)
+
+    -- the call was reported
+    held_more : (now' : Report) (later : Ends) → now' ≡ report_after_call now p → (now ≡ All → AreReadable policy n p.recs) → SendsAll (call_sends now policy n p) after later → HoldReports policy first now' (seen ++ p ∷ []) stopped before later
+    unfolding reported report_after
+    held_more now' later taken own sends = record {
+      front = [];
+      rest = [];
+      next = ap (reported (report_after first (seen ++ p ∷ [])) policy (length (seen ++ p ∷ []) + 1)) none;
+      sends = subst (λ (o : List Sent). Sends o before later) with_call (sends_more (reported first policy 1 seen) (call_sends now policy n p) before after later sent sends.sends);
+      report = λ _. taken ∙ ap (λ (r : Report). report_after_call r p) (k.report none) ∙ sym (after_calls first seen (p ∷ []));
+      readable = λ all. records_more all own;
+      one = k.one;
+    }
+
+    -- a fault stopped it
+    held_stop : (now' : Report) (later : Ends) (fault : Fault) → StopsBy fault (call_sends now policy n p) after later → HoldReports policy first now' seen (p ∷ []) before later
+    held_stop now' later fault stop = record {
+      front = stop.sends.sent;
+      rest = stop.sends.rest;
+      next = sym next_call ∙ stop.sends.prefix;
+      sends = sends_more (reported first policy 1 seen) stop.sends.sent before after later sent stop.sends.sends;
+      report = λ e. absurd (no_call p e);
+      readable = k.readable;
+      one = omega arith;
+    }
+
+-- ---- from the start on
+
+-- nothing was seen yet
+pub held_new : {K T : Type 0} (f : K → SinkView) (g : T → SinkView) (out : K) (trail : T) (policy : PolicyNames) (r : Report) (none start : List (K × (T × Report))) (seen stopped : List (Line × (ℕ × Outcome)))
+    → start ≡ none ++ (out, (trail, r)) ∷ [] → none ≡ [] → seen ≡ [] → stopped ≡ [] → ∥ HoldReportsSince f g start policy r seen stopped (f out) (g trail) ∥₁
+held_new f g out trail policy r none start seen stopped is new no_call no_stop = rw (is, new, no_call, no_stop) (∣ held_at_start policy r (ends 0 (f out) (g trail)) ∣₁)
+
+module _ {K T : Type 0} (f : K → SinkView) (g : T → SinkView) (start : List (K × (T × Report))) (policy : PolicyNames) (now : Report) (seen stopped : List (Line × (ℕ × Outcome))) (out trail : SinkView) where
+  module _ (none : calls_seen stopped ≡ []) (n : ℕ) (is : n ≡ length (calls_seen seen) + 1) (line : Line) (at : ℕ) (o : Outcome) (now' : Report) (out' trail' : SinkView) where
+    abbrev call : CallRecord
+    call = call_on line at o
+
+    more_since : (starts : List (K × (T × Report))) (seen' : List (Line × (ℕ × Outcome))) → seen' ≡ seen ++ (line, (at, o)) ∷ [] → now' ≡ report_after_call now call
+        → (now ≡ All → AreReadable policy n o.recs) → SendsAll (call_sends now policy n call) (ends 0 out trail) (ends 0 out' trail') → HoldReportsSince f g starts policy now seen stopped out trail → HoldReportsSince f g starts policy now' seen' stopped out' trail'
+    more_since [] seen' added taken own sends k = k
+    more_since (s ∷ _) seen' added taken own sends k =
+        subst (λ (cs : List CallRecord). HoldReports policy s.1.1 now' cs (calls_seen stopped) (ends 0 (f s.0) (g s.1.0)) (ends 0 out' trail')) (sym (one_more seen line at o seen' added))
+        (held_more policy s.1.1 now (calls_seen seen) (calls_seen stopped) _ _ k none n is call now' _ taken own sends)
+
+    -- a call was reported
+    pub held_seen : (seen' : List (Line × (ℕ × Outcome))) → ∥ HoldReportsSince f g start policy now seen stopped out trail ∥₁ → seen' ≡ seen ++ (line, (at, o)) ∷ [] → now' ≡ report_after_call now call
+        → (now ≡ All → AreReadable policy n o.recs) → SendsAll (call_sends now policy n call) (ends 0 out trail) (ends 0 out' trail') → ∥ HoldReportsSince f g start policy now' seen' stopped out' trail' ∥₁
+    held_seen seen' kept added taken own sends = ∥∥₁_map kept (more_since start seen' added taken own sends)
+
+    stop_since : (starts : List (K × (T × Report))) (stopped' : List (Line × (ℕ × Outcome))) (fault : Fault) → stopped' ≡ stopped ++ (line, (at, o)) ∷ []
+        → StopsBy fault (call_sends now policy n call) (ends 0 out trail) (ends 0 out' trail') → HoldReportsSince f g starts policy now seen stopped out trail → HoldReportsSince f g starts policy now' seen stopped' out' trail'
+    stop_since [] stopped' fault added stop k = k
+    stop_since (s ∷ _) stopped' fault added stop k =
+        subst (λ (cs : List CallRecord). HoldReports policy s.1.1 now' (calls_seen seen) cs (ends 0 (f s.0) (g s.1.0)) (ends 0 out' trail')) (sym (only_one stopped line at o stopped' added none))
+        (held_stop policy s.1.1 now (calls_seen seen) (calls_seen stopped) _ _ k none n is call now' _ fault stop)
+
+    -- a fault stopped a call
+    pub held_stopped : (stopped' : List (Line × (ℕ × Outcome))) (fault : Fault) → ∥ HoldReportsSince f g start policy now seen stopped out trail ∥₁ → stopped' ≡ stopped ++ (line, (at, o)) ∷ []
+        → StopsBy fault (call_sends now policy n call) (ends 0 out trail) (ends 0 out' trail') → ∥ HoldReportsSince f g start policy now' seen stopped' out' trail' ∥₁
+    held_stopped stopped' fault kept added stop = ∥∥₁_map kept (stop_since start stopped' fault added stop)
+
+-- what was written holds of equal names of labels and of equal ends
+pub from_equal : {K T : Type 0} (f : K → SinkView) (g : T → SinkView) (P : PolicyNames → SinkView → SinkView → Type 0) (policy policy' : PolicyNames) (k k' : K) (t t' : T) → policy' ≡ policy → k' ≡ k → t' ≡ t → P policy' (f k') (g t') → P policy (f k) (g t)
+from_equal f g P policy policy' k k' t t' is out trail p =
+    subst (λ (q : PolicyNames). P q (f k) (g t)) is (subst (λ x. P policy' (f x) (g t)) out (subst (λ x. P policy' (f k') (g x)) trail p))

@@ -1,8 +1,0 @@
-use Rattle.std.proofs.Common.{◌≡◌, ◌++◌, drop}
-use Rattle.std.specs.Map.{keys_of}
-use Rattle.num_table.specs.Rows.{numbered}
-use Rattle.num_table.proofs.row.Row.add_numbers.Given as goal
-
--- the numbers so far and those that are left
-abbrev pub invariant-loop-place : goal.invariant-loop-place
-invariant-loop-place l = l.numbers.items ++ keys_of (numbered l.label l.place (drop l.place l.self)) ≡ l.fn.numbers.items ++ keys_of (numbered l.label 0 l.self)
