@@ -8,7 +8,7 @@ if exists('b:current_syntax')
 endif
 
 " the first word of a line of a world, and the first two of a line of a script
-syntax match labsysKeyword /^ *\(world\|levels\|categories\|bound\|dir\|file\|fifo\|proc\|script\)\>/
+syntax match labsysKeyword /^ *\(world\|levels\|categories\|grades\|bound\|dir\|file\|fifo\|proc\|script\)\>/
 syntax match labsysTag /^ *\d\+@\S\+/ nextgroup=labsysCall,labsysUtility skipwhite
 syntax keyword labsysCall contained open close read write lseek dup pipe fstat mkfifo mkdir rmdir
 syntax keyword labsysCall contained link unlink rename readdir stat chdir chmod chown cap_get_file

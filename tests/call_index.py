@@ -36,6 +36,8 @@ SHARED = [
     "kern_model",
 ]
 SHARED_INTRO = """\
+## What calls share
+
 What calls share is in the crate that plays them and in the crates below. The table has the functions that an edit changes, in
 that crate and in those from `sys_lookup` down to `kern_model`. The edits of `lab_lattice`, `cap_bits` and `fs_path` are in the
 folders `must-fail` there."""
@@ -190,8 +192,8 @@ def link(text, path):
     return f"[`{text}`](../{path.relative_to(TOP)})"
 
 
-def listed(links):
-    return ", ".join(dict.fromkeys(links)) or "none"
+def listed(links, none="none"):
+    return ", ".join(dict.fromkeys(links)) or none
 
 
 def shown_case(found):
@@ -222,7 +224,8 @@ def table_of_calls():
     for variant, word in words().items():
         (row, row_file), body = every_row[variant], bodies()[variant]
         links = [link(row, row_file), link(body.name, body.path), listed(laws_on(row)), shown_case(every_case[word])]
-        lines.append(f"| {' | '.join([f'`{word}`', *links, listed(edits_under(body))])} |")
+        edits = listed(edits_under(body), "those of [what calls share](#what-calls-share)")
+        lines.append(f"| {' | '.join([f'`{word}`', *links, edits])} |")
     return lines
 
 

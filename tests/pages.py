@@ -90,7 +90,7 @@ def limits():
 
 
 def limits_of_lists():
-    """The limits of the lists of names, of levels and of categories."""
+    """The limits of the lists of levels and of categories."""
     return re.findall(r"NameList::\w+ => (\d+)", text_of("crates/lab_text/src/lists.rt"))
 
 
@@ -473,6 +473,7 @@ VALUES = {
     "PERMISSIONS": lambda: octal(limit("MAX_PERMISSIONS")),
     "LEVELS": lambda: constant("lab_lattice/src/level.rt", "MAX_LEVEL") + 1,
     "CATEGORIES": lambda: constant("lab_lattice/src/cats.rt", "MAX_CATS"),
+    "GRADES": lambda: constant("lab_text/src/policy.rt", "MAX_GRADES"),
     "NAME": lambda: constant("fs_path/src/name.rt", "MAX_NAME"),
     "PATH": lambda: constant("fs_path/src/path.rt", "MAX_TEXT"),
     "NAMES": lambda: constant("fs_path/src/path.rt", "MAX_NAMES"),
@@ -613,7 +614,8 @@ NUMBERS = [
     ("docs/CALLS.md", "EAGAIN where {PROCESSES} process numbers of the caller's label are drawn"),
     ("docs/PROFILE.md", "A world names 1 to {LEVELS} levels, lowest first, and 0 to {CATEGORIES} categories"),
     ("docs/PROFILE.md", "Root's power is split into {CAPABILITIES} capabilities"),
-    ("docs/PROFILE.md", "| levels; categories | {LEVELS}; {CATEGORIES} |"),
+    ("docs/PROFILE.md", "A world may name 1 to {GRADES} grades, lowest first"),
+    ("docs/PROFILE.md", "| levels; categories; grades | {LEVELS}; {CATEGORIES}; {GRADES} |"),
     ("docs/PROFILE.md", "| a name in a path | 1 to {NAME} bytes"),
     ("docs/PROFILE.md", "| a path | {PATH} bytes and {NAMES} names |"),
     ("docs/PROFILE.md", "| descriptors of a process | {DESCRIPTORS}, numbered from 0 |"),
@@ -651,7 +653,8 @@ NUMBERS = [
     ("docs/FORMATS.md", "| `levels NAME NAME ...` | 1 to {LEVELS} levels"),
     ("docs/FORMATS.md", "| `categories NAME ...` | 0 to {CATEGORIES} categories"),
     ("docs/FORMATS.md", "| `syntax` | the line has more than {LINE} bytes"),
-    ("docs/FORMATS.md", "more than {LEVELS} levels, {CATEGORIES} categories"),
+    ("docs/FORMATS.md", "| `grades NAME NAME ...` | 1 to {GRADES} grades"),
+    ("docs/FORMATS.md", "more than {LEVELS} levels, {CATEGORIES} categories, {GRADES} grades"),
     ("docs/FORMATS.md", "{OBJECTS} objects of a label or {PROCESSES} processes of a label"),
     ("docs/FORMATS.md", "A name has 1 to {LABEL_NAME} bytes"),
     ("docs/FORMATS.md", "TAG is `n@label`, with n from 1 to {PROCESSES}:"),
