@@ -72,9 +72,9 @@ Values (Done r) = Unit {0}
 Values (Next f more) = (v : Of f) × Values (more v)
 
 -- the record that values make
-abbrev pub made : (form : Form) → Values form → Rec
-made (Done r) vs = r
-made (Next f more) vs = made (more vs.0) vs.1
+abbrev pub record_of : (form : Form) → Values form → Rec
+record_of (Done r) vs = r
+record_of (Next f more) vs = record_of (more vs.0) vs.1
 
 -- the words of a form's values
 abbrev pub words_in : PolicyNames → (form : Form) → Values form → List (List ℕ)
@@ -91,7 +91,7 @@ IsWide (Done r) = Unit {0}
 IsWide (Next f more) = (is_wide f ≡ true) × ((v : Of f) → IsWide (more v))
 
 -- the words of values that fit are read as the record that they make
-pub form_round_trip : (p : PolicyNames) (form : Form) (vs : Values form) → MakePolicy p → IsWide form → values_fit p form vs ≡ true → parse_form p form (after_spaces (words_in p form vs)) ≡ Ok (made form vs)
+pub form_round_trip : (p : PolicyNames) (form : Form) (vs : Values form) → MakePolicy p → IsWide form → values_fit p form vs ≡ true → parse_form p form (after_spaces (words_in p form vs)) ≡ Ok (record_of form vs)
 unfolding ended
 form_round_trip p (Done r) vs h wide fit = refl
 form_round_trip p (Next f more) vs h wide fit =
@@ -113,7 +113,7 @@ pub record IsFormed (p : PolicyNames) (form : Form) (left : List ℕ) (r : Rec) 
   pub values : Values form
   pub fit : values_fit p form values ≡ true
   pub text : left ≡ after_spaces (words_in p form values)
-  pub makes : made form values ≡ r
+  pub makes : record_of form values ≡ r
 
 pub form_is : (p : PolicyNames) (form : Form) (left : List ℕ) (r : Rec) → parse_form p form left ≡ Ok r → IsFormed p form left r
 unfolding ended

@@ -32,7 +32,7 @@ use Rattle.aud_record.proofs.Numbers.{same_itself, same_is}
 use Rattle.aud_record.proofs.WordLaws.{lacks, lacks-append, split_round_trip, split_is, word_lacks}
 use Rattle.aud_record.specs.Canonical.{after_prefix}
 use Rattle.aud_record.specs.Results.{AnswersAs, FailsBy}
-use Rattle.aud_record.specs.Header.{is_no_memory, after_keyword, keyword_line, made, policy_of, names_line, is_before, has_no_line, list_line, names_lines, canonical_set, bound_of, format_line}
+use Rattle.aud_record.specs.Header.{is_no_memory, after_keyword, keyword_line, names_unless, policy_of, names_line, is_before, has_no_line, list_line, names_lines, canonical_set, bound_of, format_line}
 use Rattle.aud_record.specs.Words.{◌>>=◌}
 use Rattle.aud_record.specs.Written.{line_of}
 use Rattle.aud_record.specs.declared.header.HeaderError.{HeaderError}
@@ -107,7 +107,7 @@ names_bare ns h = all_weaker is_label_name is_bare_text ns label_name_bare h
 
 made_of : (n : ℕ) (p : PolicyNames) → MakePolicy p → policy_of n p ≡ Ok p
 unfolding policy_of
-made_of n p h = ap (made n p) h
+made_of n p h = ap (names_unless n p) h
 
 -- the policy that was made of names
 record IsMadeOf (q p : PolicyNames) : Type 0 where
@@ -118,7 +118,7 @@ policy_is : (n : ℕ) (p q : PolicyNames) → policy_of n p ≡ Ok q → IsMadeO
 unfolding policy_of
 policy_is n p q h = by_fault (names_fault p) refl h
   where
-    by_fault : (o : Option PolicyError) → names_fault p ≡ o → made n p o ≡ Ok q → IsMadeOf q p
+    by_fault : (o : Option PolicyError) → names_fault p ≡ o → names_unless n p o ≡ Ok q → IsMadeOf q p
     by_fault None e h = record { same = cc; fine = e }
     by_fault (Some fault) e h = absurd (cc)
 

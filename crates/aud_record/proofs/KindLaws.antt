@@ -10,7 +10,7 @@ use Rattle.kern_model.specs.declared.records.Rec.TheVariants as rec
 use Rattle.kern_model.specs.Records.{who_of}
 use Rattle.aud_record.specs.Events.{event_of}
 use Rattle.aud_record.specs.Fits.{rest_tests, all_hold}
-use Rattle.aud_record.proofs.FormLaws.{Values, made, words_in, values_fit, IsWide}
+use Rattle.aud_record.proofs.FormLaws.{Values, record_of, words_in, values_fit, IsWide}
 use Rattle.aud_record.specs.Forms.{exit_form, form_of}
 use Rattle.aud_record.specs.Written.{rest_words}
 use Rattle.aud_record.specs.declared.canonical.NewLabel.TheVariants as new
@@ -37,10 +37,10 @@ form_wide event.Note who = (refl, λ bytes. tt)
 
 -- the record that a form makes is of its kind and about its process, has the words of its values, and fits where they do
 pub record IsOfKind (p : PolicyNames) (e : Event) (who : Pid) (vs : Values (form_of e who)) : Type 0 where
-  pub kind : event_of (made (form_of e who) vs) ≡ e
-  pub about : who_of (made (form_of e who) vs) ≡ who
-  pub text : after_spaces (words_in p (form_of e who) vs) ≡ after_spaces (rest_words p (made (form_of e who) vs))
-  pub fit : all_hold (rest_tests p (made (form_of e who) vs)) ≡ values_fit p (form_of e who) vs
+  pub kind : event_of (record_of (form_of e who) vs) ≡ e
+  pub about : who_of (record_of (form_of e who) vs) ≡ who
+  pub text : after_spaces (words_in p (form_of e who) vs) ≡ after_spaces (rest_words p (record_of (form_of e who) vs))
+  pub fit : all_hold (rest_tests p (record_of (form_of e who) vs)) ≡ values_fit p (form_of e who) vs
 
 pub of_kind : (p : PolicyNames) (e : Event) (who : Pid) (vs : Values (form_of e who)) → IsOfKind p e who vs
 of_kind p event.Boot who vs = record { kind = refl; about = refl; text = refl; fit = refl }
@@ -61,7 +61,7 @@ of_kind p event.Note who vs = record { kind = refl; about = refl; text = refl; f
 -- a record is made from values of its form
 pub record IsMade (r : Rec) : Type 0 where
   pub values : Values (form_of (event_of r) (who_of r))
-  pub makes : made (form_of (event_of r) (who_of r)) values ≡ r
+  pub makes : record_of (form_of (event_of r) (who_of r)) values ≡ r
 
 pub made_by : (r : Rec) → IsMade r
 made_by (rec.Boot who label caps) = record { values = (label, (caps, tt)); makes = refl }

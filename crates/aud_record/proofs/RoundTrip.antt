@@ -16,7 +16,7 @@ use Rattle.kern_model.specs.Records.{who_of}
 use Rattle.aud_record.specs.Events.{event_of, event_word, all_events}
 use Rattle.aud_record.proofs.FieldLaws.{canonical_is, canonical_round_trip, field_word}
 use Rattle.aud_record.specs.Fits.{pid_fits, rest_tests, all_hold, rec_fits}
-use Rattle.aud_record.proofs.FormLaws.{bound_is, word_round_trip, field_round_trip, Reads, word_is, field_is, after_text_is, made, values_fit, form_round_trip, words_lack, IsFormed, form_is}
+use Rattle.aud_record.proofs.FormLaws.{bound_is, word_round_trip, field_round_trip, Reads, word_is, field_is, after_text_is, record_of, values_fit, form_round_trip, words_lack, IsFormed, form_is}
 use Rattle.aud_record.specs.Forms.{Kind, Process, form_of, parse_form}
 use Rattle.aud_record.proofs.KindLaws.{form_wide, of_kind, made_by}
 use Rattle.aud_record.proofs.Numbers.{number_is, number_round_trip}
@@ -114,9 +114,9 @@ line_made p line left after_kind rest call e who r number kind about formed =
     let k = canonical_is p Kind kind.2.word e kind.2.says in
     let w = canonical_is p Process about.2.word who about.2.says in
     let of = of_kind p e who formed.values in
-    let made_is : IsLine p line call (made (form_of e who) formed.values) = record {
+    let made_is : IsLine p line call (record_of (form_of e who) formed.values) = record {
       small = n.small;
-      fit = and_from (pid_fits p (who_of (made (form_of e who) formed.values))) (all_hold (rest_tests p (made (form_of e who) formed.values))) (ap (pid_fits p) of.about ∙ w.fit) (of.fit ∙ formed.fit);
+      fit = and_from (pid_fits p (who_of (record_of (form_of e who) formed.values))) (all_hold (rest_tests p (record_of (form_of e who) formed.values))) (ap (pid_fits p) of.about ∙ w.fit) (of.fit ∙ formed.fit);
       text = parts_are number.parts n.text kind.1 kind.2.parts (k.text_is ∙ ap event_word (sym of.kind)) about.1 about.2.parts (w.text_is ∙ ap (pid_text p) (sym of.about)) (formed.text ∙ of.text);
     } in
     subst (IsLine p line call) formed.makes made_is

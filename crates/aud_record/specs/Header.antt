@@ -52,13 +52,13 @@ names_error n names.Repeated = error.Name n
 names_error n (names.NoMemory e) = error.NoMemory e
 
 -- names, unless they make no policy
-abbrev pub made : ℕ → PolicyNames → Option PolicyError → Result PolicyNames HeaderError
-made n p None = Ok p
-made n p (Some e) = Err (names_error n e)
+abbrev pub names_unless : ℕ → PolicyNames → Option PolicyError → Result PolicyNames HeaderError
+names_unless n p None = Ok p
+names_unless n p (Some e) = Err (names_error n e)
 
 -- names of which the last are those of line n, unless they make no policy
 unfoldable pub policy_of : ℕ → PolicyNames → Result PolicyNames HeaderError
-policy_of n p = made n p (names_fault p)
+policy_of n p = names_unless n p (names_fault p)
 
 -- names with those of a list from line n, with which a text begins, and the text after the line
 unfoldable pub names_line : ℕ → NameList → PolicyNames → List ℕ → Result (PolicyNames × List ℕ) HeaderError

@@ -2,3 +2,4 @@ pub mod Caps
 pub mod Names
 pub mod CapSets
 pub mod Words
+pub mod RoundTrips

@@ -51,3 +51,7 @@ same_cap a b = eq_by_cmp cap_cmp a b
 -- whether two sets are one
 unfoldable pub same_sets : CapSet → CapSet → Bool
 same_sets a b = is_within a b && is_within b a
+
+-- whether a set has no capability
+abbrev pub is_empty : CapSet → Bool
+is_empty caps = same_sets caps no_caps

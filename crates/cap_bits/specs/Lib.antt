@@ -1,5 +1,6 @@
 pub mod Cap
 pub mod CapSet
 pub mod State
+pub mod FileCaps
 pub mod Word
 pub mod Laws

@@ -2,9 +2,11 @@
 #![tactic(auto)]
 
 mod cap;
+mod file_caps;
 mod set;
 mod state;
 
 pub use cap::Cap;
+pub use file_caps::FileCaps;
 pub use set::CapSet;
 pub use state::{CapState, Flag};

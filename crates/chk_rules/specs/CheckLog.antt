@@ -6,7 +6,7 @@ use Rattle.kern_model.specs.declared.numbers.Pid.{Pid}
 use Rattle.kern_model.specs.declared.checks.Check.{Check}
 use Rattle.kern_model.specs.declared.checks.Verdict.{Verdict}
 use Rattle.kern_model.specs.declared.records.Rec.{Rec}
-use Rattle.kern_model.specs.Row.{Subject, Row, CheckOutcome, noted, judge}
+use Rattle.kern_model.specs.Row.{Subject, Row, CheckOutcome, exercises_after, judge}
 
 -- whose call is checked, and the exercises so far
 pub record CheckLog : Type 0 where
@@ -18,8 +18,8 @@ abbrev pub check_log : Pid → Label → CapSet → CheckLog
 check_log who label effective = record { subject = record { who = who; label = label; effective = effective }; used = [] }
 
 -- the log after a check with this verdict
-abbrev pub noting : CheckLog → Check → Verdict → CheckLog
-noting log c v = record log { used = noted log.subject c v log.used }
+abbrev pub log_after : CheckLog → Check → Verdict → CheckLog
+log_after log c v = record log { used = exercises_after log.subject c v log.used }
 
 -- how a row ends from here
 abbrev pub judge_from : CheckLog → Row → CheckOutcome

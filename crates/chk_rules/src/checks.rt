@@ -1,7 +1,7 @@
 // The checks of a call: their verdicts, and the exercises that they leave.
 ghost use Rattle.std.specs.Prelude.{◌≡◌, ◌++◌, IfOk, OnErr, OnOk, Some, false, true};
 ghost use Rattle.kern_model.specs.Row.{exercise_with, verdict_of, Need, Refuse, Soft};
-ghost use Rattle.chk_rules.specs.CheckLog.{CheckLog, check_log, noting};
+ghost use Rattle.chk_rules.specs.CheckLog.{CheckLog, check_log, log_after};
 ghost use Rattle.chk_rules.specs.RowSteps.{GoesOn};
 
 use crate::Stop;
@@ -62,7 +62,7 @@ impl Checks {
     #[inline(always)]
     pub fn need(&mut self, check: &Check) -> Result<Verdict, NoMemory>
         ensures verdict { IfOk result (λ verdict. verdict ≡ verdict_of self.old.subject check.now) }
-        ensures used { IfOk result (λ verdict. self.new ≡ noting self.old check.now verdict) }
+        ensures used { IfOk result (λ verdict. self.new ≡ log_after self.old check.now verdict) }
         ensures subject { self.new.subject ≡ self.old.subject }
         ensures err { OnErr result (self.new ≡ self.old) }
     {

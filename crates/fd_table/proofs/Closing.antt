@@ -15,7 +15,7 @@ use Rattle.kern_model.specs.declared.numbers.Did.{Did}
 use Rattle.kern_model.specs.declared.numbers.Oid.{Oid}
 use Rattle.kern_model.specs.declared.numbers.Pid.{Pid}
 use Rattle.kern_model.specs.declared.objects.Object.{Object}
-use Rattle.kern_model.specs.Descriptors.{Descriptor, closing, descriptors, emptied, is_drained, is_let_go, let_go}
+use Rattle.kern_model.specs.Descriptors.{Descriptor, closing, descriptors, truncation, is_drained, is_let_go, let_go}
 use Rattle.kern_model.specs.Keys.{did_cmp, oid_cmp, pid_cmp, same_did, same_oid, same_pid}
 use Rattle.kern_model.specs.Kinds.{is_fifo}
 use Rattle.kern_model.specs.Maps.{any_entry}
@@ -130,7 +130,7 @@ module _ (s : State) (goes : Descriptor → Bool) where
   emptied_by [] objects = objects
   emptied_by (e ∷ es) objects = emptied_by es (cond (empties e) (map.insert objects e.1.object (without_bytes e.1.object)) objects)
 
-  one_let_go : (r : State) (e : Did × Description) (a b : Bool) → changed_by r (cond a (DropDescription e.0 ∷ cond b (emptied s e.1.object ∷ []) []) [])
+  one_let_go : (r : State) (e : Did × Description) (a b : Bool) → changed_by r (cond a (DropDescription e.0 ∷ cond b (truncation s e.1.object ∷ []) []) [])
       ≡ record r { descriptions = cond a (map.remove r.descriptions e.0) r.descriptions; objects = cond (a && b) (map.insert r.objects e.1.object (without_bytes e.1.object)) r.objects }
   one_let_go r e true true = refl
   one_let_go r e true false = refl

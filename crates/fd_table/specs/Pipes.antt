@@ -2,7 +2,7 @@
 use Rattle.std.specs.Prelude.{◌≡◌, ◌<◌, ◌+◌, ◌==◌, ◌&&◌, ℕ, Bool, true, false, List, length}
 use Rattle.kern_model.specs.declared.limits.TheConstants.{MAX_PIPE_BYTES}
 use Rattle.kern_model.specs.declared.numbers.Oid.{Oid}
-use Rattle.fs_nodes.specs.Nodes.{Fit}
+use Rattle.fs_nodes.specs.Nodes.{FitsPipe}
 use Rattle.fd_table.specs.Files.{OpenFiles, has_reader, has_writer}
 use Rattle.fd_table.specs.declared.pipes.PipeError.{PipeError}
 use Rattle.fd_table.specs.declared.pipes.PipeError.TheVariants as error
@@ -17,7 +17,7 @@ IfFull t id bytes more P = has_reader t id ≡ true → MAX_PIPE_BYTES < length 
 
 -- if it has a description for reading, and room for them, this holds
 abbrev pub IfRoom : OpenFiles → Oid → List ℕ → List ℕ → Type 0 → Type 0
-IfRoom t id bytes more P = has_reader t id ≡ true → Fit bytes more → P
+IfRoom t id bytes more P = has_reader t id ≡ true → FitsPipe bytes more → P
 
 -- whether a pipe or FIFO is empty, and has a description for writing
 abbrev pub is_awaited : OpenFiles → Oid → List ℕ → Bool

@@ -24,17 +24,16 @@ pub struct FdSlots {
 }
 
 impl Model for FdSlots {
-    ghost use Rattle.std.specs.Prelude.{◌≡◌, ℕ, length};
+    ghost use Rattle.std.specs.Prelude.{◌≡◌, length};
     ghost use Rattle.std.specs.FinMap as map;
     ghost use Rattle.std.specs.Coded.{coded_ℕ};
-    ghost use Rattle.std.specs.Coded.{codes};
-    ghost use Rattle.lab_lattice.specs.Label.{label_code};
     ghost use Rattle.kern_model.specs.declared.limits.TheConstants.{MAX_DESCRIPTORS};
     ghost use Rattle.fd_table.specs.Fds.{Fds, fds_in, slots_of};
+    ghost use Rattle.kern_model.proofs.StateCode.{did_code};
 
     ghost Value = { Fds };
 
-    ghost coded = { map.code coded_ℕ (Prim.hlevel (codes, label_code)) };
+    ghost coded = { map.code coded_ℕ did_code };
 
     ghost view = { λ r. fds_in (slots_of r.taken r.labels r.counts) };
 

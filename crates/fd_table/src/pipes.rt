@@ -1,6 +1,7 @@
 // Bytes into pipes and FIFOs, and out of them.
 ghost use Rattle.std.specs.Prelude.{◌≡◌, ◌++◌, true, false, Err, IfErr, IfOk, Ok, OnErr, OnOk, drop, length, take};
-ghost use Rattle.fs_nodes.specs.Nodes.{ForBytes, ForObject, IsStream, fitting};
+ghost use Rattle.kern_model.specs.Maps.{IfPresent};
+ghost use Rattle.fs_nodes.specs.Nodes.{ForBytes, IsStream, fitting};
 ghost use Rattle.fd_table.specs.Files.{has_reader};
 ghost use Rattle.fd_table.specs.Pipes.{IfFull, IfRoom, is_awaited, is_no_memory};
 
@@ -33,7 +34,7 @@ impl From<NoMemory> for PipeError {
 // How many bytes are in a pipe or FIFO.
 fn size<B: Buffers>(buffers: &B, id: &Oid) -> usize
     requires { IsStream (B.objects buffers.now) id.now }
-    ensures { ForObject (B.objects buffers.now) id.now (λ o. result ≡ length o.bytes) }
+    ensures { IfPresent (B.objects buffers.now) id.now (λ o. result ≡ length o.bytes) }
 {
     let Some(object) = buffers.object(id) else {
         unreachable!();
@@ -55,8 +56,8 @@ impl FdTable {
     ) -> Result<(), PipeError>
         requires { IsStream (B.objects buffers.old) id.now }
         ensures broken { has_reader self.now id.now ≡ false → result ≡ Err PipeError.Broken }
-        ensures again { ForObject (B.objects buffers.old) id.now (λ o. IfFull self.now id.now o.bytes bytes.now (result ≡ Err PipeError.Again)) }
-        ensures memory { ForObject (B.objects buffers.old) id.now (λ o. IfRoom self.now id.now o.bytes bytes.now (IfErr result (λ e. is_no_memory e ≡ true))) }
+        ensures again { IfPresent (B.objects buffers.old) id.now (λ o. IfFull self.now id.now o.bytes bytes.now (result ≡ Err PipeError.Again)) }
+        ensures memory { IfPresent (B.objects buffers.old) id.now (λ o. IfRoom self.now id.now o.bytes bytes.now (IfErr result (λ e. is_no_memory e ≡ true))) }
         ensures put { ForBytes (B.objects buffers.old) id.now (λ old with_bytes. OnOk result (B.objects buffers.new ≡ with_bytes (old ++ bytes.now))) }
         ensures err { OnErr result (B.objects buffers.new ≡ B.objects buffers.old) }
         ensures rest { B.rest_same buffers.old buffers.new }
@@ -84,9 +85,9 @@ impl FdTable {
         buf: &mut [u8],
     ) -> Result<usize, PipeError>
         requires { IsStream (B.objects buffers.old) id.now }
-        ensures again { ForObject (B.objects buffers.old) id.now (λ o. is_awaited self.now id.now o.bytes ≡ true → result ≡ Err PipeError.Again) }
-        ensures count { ForObject (B.objects buffers.old) id.now (λ o. is_awaited self.now id.now o.bytes ≡ false → result ≡ Ok (fitting o.bytes buf.old)) }
-        ensures taken { ForObject (B.objects buffers.old) id.now (λ o. IfOk result (λ n. buf.new ≡ take n o.bytes ++ drop n buf.old)) }
+        ensures again { IfPresent (B.objects buffers.old) id.now (λ o. is_awaited self.now id.now o.bytes ≡ true → result ≡ Err PipeError.Again) }
+        ensures count { IfPresent (B.objects buffers.old) id.now (λ o. is_awaited self.now id.now o.bytes ≡ false → result ≡ Ok (fitting o.bytes buf.old)) }
+        ensures taken { IfPresent (B.objects buffers.old) id.now (λ o. IfOk result (λ n. buf.new ≡ take n o.bytes ++ drop n buf.old)) }
         ensures left { ForBytes (B.objects buffers.old) id.now (λ old with_bytes. IfOk result (λ n. B.objects buffers.new ≡ with_bytes (drop n old))) }
         ensures err { OnErr result (B.objects buffers.new ≡ B.objects buffers.old) }
         ensures untouched { OnErr result (buf.new ≡ buf.old) }

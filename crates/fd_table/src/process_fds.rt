@@ -29,17 +29,15 @@ pub struct ProcessFds {
 impl Model for ProcessFds {
     ghost use Rattle.std.specs.Prelude.{◌≡◌};
     ghost use Rattle.std.specs.FinMap as map;
-    ghost use Rattle.std.specs.Coded.{codes, coded_ℕ};
-    ghost use Rattle.lab_lattice.specs.Label.{label_code};
-    ghost use Rattle.kern_model.specs.declared.numbers.Did.{Did};
-    ghost use Rattle.std.specs.Prelude.{ℕ};
+    ghost use Rattle.std.specs.Coded.{coded_ℕ};
     ghost use Rattle.std.specs.Ordering.{nat_cmp};
     ghost use Rattle.kern_model.specs.ByNumber.{by_pid};
     ghost use Rattle.fd_table.specs.Fds.{AllFds};
+    ghost use Rattle.kern_model.proofs.StateCode.{did_code, pid_code};
 
     ghost Value = { AllFds };
 
-    ghost coded = { map.code (Prim.hlevel (codes, label_code)) (map.code {K = ℕ} {X = Did} {R = nat_cmp} coded_ℕ (Prim.hlevel (codes, label_code))) };
+    ghost coded = { map.code pid_code (map.code {R = nat_cmp} coded_ℕ did_code) };
 
     ghost view = { λ a. by_pid a.by_process };
 

@@ -6,10 +6,10 @@ use Rattle.std.specs.declared.cmp.Ordering.TheVariants.{Less, Equal, Greater}
 use Rattle.std.specs.Ordering.{nat_cmp, is_lt, is_eq, eq_by_cmp, ordering_then}
 use Rattle.std.specs.Option.{option_or, option_and_then, option_map}
 use Rattle.std.specs.List.{flat_map}
-use Rattle.std.specs.Cmp.{IsTotalOrder, eq_by_cmp_equiv}
+use Rattle.std.specs.Cmp.{eq_by_cmp_equiv}
 use Rattle.std.specs.Cmp.Lexicographic.{slice_cmp}
 use Rattle.std.specs.FinMap as table
-use Rattle.std.specs.FinMap.{FinMap, IsAntisymmetric, same_map, get-empty, get-insert, get-remove, find, is_sorted, entries_sorted, get-entries, len-entries, entries-from_sorted}
+use Rattle.std.specs.FinMap.{FinMap, same_map, get-empty, get-insert, get-remove, find, is_sorted, entries_sorted, get-entries, len-entries, entries-from_sorted}
 use Rattle.std.specs.FinMap.Entries.{below_all}
 use Rattle.std.proofs.Common.{ap, sym, ◌∙◌, subst, T}
 use Rattle.std.proofs.lemmas.Cmp.{tied_itself, nat_list_cmp_total}

@@ -14,6 +14,7 @@ use Rattle.kern_model.specs.declared.limits.TheConstants.{MAX_LINKS}
 use Rattle.kern_model.specs.Entries.{is_removed, is_under, link_count}
 use Rattle.kern_model.specs.Keys.{Spot, oid_cmp, spot_cmp}
 use Rattle.kern_model.specs.Kinds.{is_dir, object_with}
+use Rattle.kern_model.specs.Maps.{IfPresent}
 use Rattle.kern_model.specs.State.{State, drawn, look, object_at, root}
 use Rattle.kern_model.specs.Valid.{IsDir}
 use Rattle.fs_nodes.specs.Nodes.{NodeSlots, NodeTable, with_object}
@@ -36,7 +37,7 @@ state_of_tree t = record (entries_alone t.entries) { objects = t.nodes.table.obj
 
 -- what holds of the object with a number, if there is one
 abbrev pub IfObject : TreeView → Oid → (Object → Type 0) → Type 0
-IfObject t id holds = (o : Object) → map.get t.nodes.table.objects id ≡ Some o → holds o
+IfObject t id holds = IfPresent t.nodes.table.objects id holds
 
 -- a tree has the objects of another one, but for one that is set
 abbrev pub HasObject : TreeView → Oid → Object → TreeView → Type 0
@@ -86,10 +87,10 @@ pub record MayBeAdded (s : State) (id : Oid) : Type 0 where
 abbrev pub would_loop : State → Oid → Oid → Bool
 would_loop s id dir = is_dir (object_at s id).kind && is_under s dir id
 
--- an object would not lie under itself in a directory, but that is removed
+-- in a directory an object would not lie under itself, but the directory is removed
 abbrev pub MayEnterRemoved : TreeView → Oid → Oid → Type 0
 MayEnterRemoved t id dir = (would_loop (state_of_tree t) id dir ≡ false) × (is_removed (state_of_tree t) dir ≡ true)
 
--- a name does not stand in a directory, but that is removed
+-- a directory has no such name, but it is removed
 abbrev pub IsAbsentFromRemoved : TreeView → Oid → Name → Type 0
 IsAbsentFromRemoved t dir name = (look (state_of_tree t) dir name ≡ None) × (is_removed (state_of_tree t) dir ≡ true)

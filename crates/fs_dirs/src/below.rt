@@ -4,7 +4,6 @@ ghost use Rattle.fs_dirs.specs.Below.{HasAllDue, IsUnderDue, is_over, with_due};
 ghost use Rattle.fs_dirs.specs.Entries.{entries_alone};
 
 use crate::entries::Entries;
-use crate::numbers::same;
 use fs_path::NoMemory;
 use kern_model::Oid;
 use std::alloc::Global;
@@ -65,7 +64,7 @@ impl Below {
         let Some(child) = entries.object_at(&due.dir, due.place) else {
             return Ok(());
         };
-        if same(&child, goal) {
+        if child.is_same(goal) {
             self.complete = false;
             return Ok(());
         }

@@ -24,13 +24,13 @@ pub struct Directory {
 impl Model for Directory {
     ghost use Rattle.std.specs.FinMap as map;
     ghost use Rattle.std.specs.Coded.{codes};
-    ghost use Rattle.lab_lattice.specs.Label.{label_code};
     ghost use Rattle.kern_model.specs.declared.numbers.Oid.{Oid};
     ghost use Rattle.fs_dirs.specs.Directory.{AreSorted, directory_of, name_cmp};
+    ghost use Rattle.kern_model.proofs.StateCode.{oid_code};
 
     ghost Value = { map.FinMap name_cmp Oid };
 
-    ghost coded = { map.code (Prim.hlevel codes) (Prim.hlevel (codes, label_code)) };
+    ghost coded = { map.code (Prim.hlevel codes) oid_code };
 
     ghost view = { λ d. directory_of d.entries };
 

@@ -22,12 +22,12 @@ impl Model for DirectoryList {
     ghost use Rattle.std.specs.Prelude.{List};
     ghost use Rattle.std.specs.FinMap as map;
     ghost use Rattle.std.specs.Coded.{codes, coded_list};
-    ghost use Rattle.lab_lattice.specs.Label.{label_code};
     ghost use Rattle.fs_dirs.specs.Entries.{Contents};
+    ghost use Rattle.kern_model.proofs.StateCode.{oid_code};
 
     ghost Value = { List Contents };
 
-    ghost coded = { coded_list (map.code (Prim.hlevel codes) (Prim.hlevel (codes, label_code))) };
+    ghost coded = { coded_list (map.code (Prim.hlevel codes) oid_code) };
 
     ghost view = { λ l. l.directories.items };
 }
@@ -93,15 +93,15 @@ pub struct Dirs {
 impl Model for Dirs {
     ghost use Rattle.std.specs.FinMap as map;
     ghost use Rattle.std.specs.Coded.{codes};
-    ghost use Rattle.lab_lattice.specs.Label.{label_cmp, label_code};
     ghost use Rattle.kern_model.specs.declared.numbers.Oid.{Oid};
     ghost use Rattle.kern_model.specs.Keys.{oid_cmp};
     ghost use Rattle.fs_dirs.specs.Directory.{name_cmp};
     ghost use Rattle.fs_dirs.specs.Entries.{dirs_in};
+    ghost use Rattle.kern_model.proofs.StateCode.{oid_code};
 
     ghost Value = { map.FinMap oid_cmp (map.FinMap name_cmp Oid) };
 
-    ghost coded = { map.code (Prim.hlevel (codes, label_code)) (map.code (Prim.hlevel codes) (Prim.hlevel (codes, label_code))) };
+    ghost coded = { map.code oid_code (map.code (Prim.hlevel codes) oid_code) };
 
     ghost view = { λ a. dirs_in a.by_label };
 }

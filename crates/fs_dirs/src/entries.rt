@@ -27,15 +27,14 @@ pub struct Entries {
 
 impl Model for Entries {
     ghost use Rattle.std.specs.FinMap as map;
-    ghost use Rattle.std.specs.Coded.{codes};
-    ghost use Rattle.lab_lattice.specs.Label.{label_code};
     ghost use Rattle.kern_model.specs.declared.numbers.Oid.{Oid};
     ghost use Rattle.kern_model.specs.Keys.{spot_cmp};
     ghost use Rattle.fs_dirs.specs.Entries.{AreIndexed, entries_of};
+    ghost use Rattle.kern_model.proofs.StateCode.{oid_code, spot_code};
 
     ghost Value = { map.FinMap spot_cmp Oid };
 
-    ghost coded = { map.code (Prim.hlevel (codes, label_code)) (Prim.hlevel (codes, label_code)) };
+    ghost coded = { map.code spot_code oid_code };
 
     ghost view = { λ e. entries_of e.dirs };
 

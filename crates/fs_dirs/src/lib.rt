@@ -7,7 +7,6 @@ mod dirs;
 mod entries;
 mod head;
 mod links;
-mod numbers;
 mod slot;
 mod spots;
 mod tiers;

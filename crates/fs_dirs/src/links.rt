@@ -5,7 +5,6 @@ ghost use Rattle.kern_model.specs.declared.numbers.Oid.{Oid as Number};
 ghost use Rattle.kern_model.specs.LabelLists.{IsSet};
 ghost use Rattle.fs_dirs.specs.Entries.{HasLess, HasMore, HasMoved, IsIn, IsInPlace, IsWith, dirs_at};
 
-use crate::numbers::same;
 use fs_path::NoMemory;
 use kern_model::{LabelMap, Oid};
 use smallvec::SmallVec;
@@ -21,13 +20,13 @@ pub struct Links {
 
 impl Model for Links {
     ghost use Rattle.std.specs.Prelude.{List};
-    ghost use Rattle.std.specs.Coded.{codes, coded_list};
-    ghost use Rattle.lab_lattice.specs.Label.{label_code};
+    ghost use Rattle.std.specs.Coded.{coded_list};
     ghost use Rattle.kern_model.specs.declared.numbers.Oid.{Oid};
+    ghost use Rattle.kern_model.proofs.StateCode.{oid_code};
 
     ghost Value = { List Oid };
 
-    ghost coded = { coded_list (Prim.hlevel (codes, label_code)) };
+    ghost coded = { coded_list oid_code };
 
     ghost view = { λ l. l.dirs.items };
 }
@@ -39,7 +38,7 @@ fn place_of(dirs: &[Oid], dir: &Oid) -> usize
     ensures is { get_or dirs.now result dir.now ≡ dir.now }
 {
     for place in 0..dirs.len() {
-        if same(&dirs[place], dir) {
+        if dirs[place].is_same(dir) {
             return place;
         }
     }
@@ -102,13 +101,13 @@ struct LinkList {
 
 impl Model for LinkList {
     ghost use Rattle.std.specs.Prelude.{List};
-    ghost use Rattle.std.specs.Coded.{codes, coded_list};
-    ghost use Rattle.lab_lattice.specs.Label.{label_code};
+    ghost use Rattle.std.specs.Coded.{coded_list};
     ghost use Rattle.kern_model.specs.declared.numbers.Oid.{Oid};
+    ghost use Rattle.kern_model.proofs.StateCode.{oid_code};
 
     ghost Value = { List (List Oid) };
 
-    ghost coded = { coded_list (coded_list (Prim.hlevel (codes, label_code))) };
+    ghost coded = { coded_list (coded_list oid_code) };
 
     ghost view = { λ l. l.links.items };
 }
@@ -182,13 +181,14 @@ pub struct LinkTable {
 
 impl Model for LinkTable {
     ghost use Rattle.std.specs.FinMap as map;
-    ghost use Rattle.std.specs.Coded.{codes, coded_list};
-    ghost use Rattle.lab_lattice.specs.Label.{label_cmp, label_code};
+    ghost use Rattle.std.specs.Coded.{coded_list};
+    ghost use Rattle.lab_lattice.specs.Label.{label_code};
     ghost use Rattle.fs_dirs.specs.Entries.{Holders};
+    ghost use Rattle.kern_model.proofs.StateCode.{oid_code};
 
     ghost Value = { Holders };
 
-    ghost coded = { map.code label_code (coded_list (coded_list (Prim.hlevel (codes, label_code)))) };
+    ghost coded = { map.code label_code (coded_list (coded_list oid_code)) };
 
     ghost view = { λ a. a.by_label };
 }

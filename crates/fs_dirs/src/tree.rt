@@ -1,5 +1,5 @@
 // The tree.
-ghost use Rattle.std.specs.Prelude.{◌≡◌, ◌↔◌, ◌<◌, ◌≤◌, ◌+◌, true, [], None, Err, IfOk, IsErr, IsSome, OnErr, OnOk, length};
+ghost use Rattle.std.specs.Prelude.{◌≡◌, ◌↔◌, ◌<◌, ◌≤◌, ◌+◌, true, false, [], None, Err, IfOk, IsErr, IsSome, OnErr, OnOk, length};
 ghost use Rattle.std.specs.List.{list_all};
 ghost use Rattle.std.specs.FinMap as map;
 ghost use Rattle.kern_model.specs.declared.numbers.Oid.{Oid as Number};
@@ -18,7 +18,6 @@ ghost use Rattle.fs_dirs.specs.Tree.{AreEntries, HasObject, IfEntry, IfObject, I
 use crate::NoMemory;
 use crate::below::Below;
 use crate::entries::Entries;
-use crate::numbers::same;
 use crate::spots::{SpotRef, Spots};
 use fs_nodes::{Buffers, NodeError, Nodes, WriteError};
 use fs_path::{Name, NameList, Steps};
@@ -94,17 +93,15 @@ impl Drop for Tree {
 }
 
 impl Model for Tree {
-    ghost use Rattle.std.specs.FinSet as set;
     ghost use Rattle.std.specs.FinMap as map;
-    ghost use Rattle.std.specs.Coded.{codes};
-    ghost use Rattle.cap_bits.specs.Cap.{cap_cmp, cap_code};
     ghost use Rattle.lab_lattice.specs.Label.{label_code};
     ghost use Rattle.fs_nodes.specs.Nodes.{slots_code};
     ghost use Rattle.fs_dirs.specs.Tree.{IsTree, TreeView, tree_code};
+    ghost use Rattle.kern_model.proofs.StateCode.{object_code, oid_code, spot_code};
 
     ghost Value = { TreeView };
 
-    ghost coded = { tree_code (slots_code (Prim.hlevel (codes, label_code)) (Prim.hlevel (codes, set.code {R = cap_cmp} cap_code, label_code)) label_code) (map.code (Prim.hlevel (codes, label_code)) (Prim.hlevel (codes, label_code))) };
+    ghost coded = { tree_code (slots_code oid_code object_code label_code) (map.code spot_code oid_code) };
 
     ghost view = { λ t. record { nodes = t.nodes; entries = t.entries } };
 
@@ -253,7 +250,7 @@ impl Tree {
     pub fn is_removed(&self, dir: &Oid) -> bool
         ensures { result ≡ is_removed (state_of_tree self.now) dir.now }
     {
-        if same(dir, &root_directory()) {
+        if dir.is_same(&root_directory()) {
             return false;
         }
         self.entries.name_count(dir) == 0
@@ -318,12 +315,25 @@ impl Tree {
         ensures removed { (result ≡ Err AddError.Removed) ↔ IsAbsentFromRemoved self.old dir.now name.now }
         ensures err { OnErr result (self.new ≡ self.old) }
     {
-        if self.entries.look(dir, name).is_some() {
+        if self.look(dir, name).is_some() {
             return Err(AddError::Exists);
         }
         if self.is_removed(dir) {
             return Err(AddError::Removed);
         }
+        self.add_absent(dir, name, id)?;
+        Ok(())
+    }
+
+    /// Has a name that is absent from a directory lead to an object. The directory is not removed.
+    pub fn add_absent(&mut self, dir: &Oid, name: &Name, id: &Oid) -> Result<(), NoMemory>
+        requires dir { IsDir self.old.nodes.table.objects dir.now }
+        requires stands { is_removed (state_of_tree self.old) dir.now ≡ false }
+        requires absent { look (state_of_tree self.old) dir.now name.now ≡ None }
+        requires may { MayBeAdded (state_of_tree self.old) id.now }
+        ensures added { OnOk result (self.new ≡ record self.old { entries = map.insert self.old.entries (dir.now, name.now) id.now }) }
+        ensures err { OnErr result (self.new ≡ self.old) }
+    {
         self.entries.insert(dir, name.copy()?, id)?;
         Ok(())
     }
@@ -403,7 +413,7 @@ impl Tree {
         let mut current = *dir;
         let mut left = self.entries.total();
         let mut below = Below::new(self.alloc, top, &self.entries);
-        'up: while !same(&current, top) {
+        'up: while !current.is_same(top) {
             if left == 0 || below.is_over() {
                 return false;
             }

@@ -81,10 +81,6 @@ with_new t l o = record { objects = map.insert t.objects (next_in t l) o; number
 abbrev pub with_key : NodeKeys → Oid → ℕ → NodeKeys
 with_key k id key = record { keys = map.insert k.keys id key; numbers = map.insert k.numbers id.label id.n }
 
--- this holds of the object with a number, if there is one
-abbrev pub ForObject : FinMap oid_cmp Object → Oid → (Object → Type 0) → Type 0
-ForObject objects id P = (o : Object) → map.get objects id ≡ Some o → P o
-
 -- this holds of the bytes of the object with a number, if there is one, and of the objects where that one has other bytes
 abbrev pub ForBytes : FinMap oid_cmp Object → Oid → (List ℕ → (List ℕ → FinMap oid_cmp Object) → Type 0) → Type 0
 ForBytes objects id P = (o : Object) → map.get objects id ≡ Some o → P o.bytes (with_bytes objects id o)
@@ -102,8 +98,8 @@ abbrev pub IsTooBig : List ℕ → ℕ → List ℕ → Type 0
 IsTooBig old at bytes = (at ≤ length old) × (MAX_FILE_BYTES < at + length bytes)
 
 -- the bytes fit into a pipe or FIFO, behind those that are there
-abbrev pub Fit : List ℕ → List ℕ → Type 0
-Fit bytes more = length bytes + length more ≤ MAX_PIPE_BYTES
+abbrev pub FitsPipe : List ℕ → List ℕ → Type 0
+FitsPipe bytes more = length bytes + length more ≤ MAX_PIPE_BYTES
 
 -- the number is that of a file
 pub record IsFile (objects : FinMap oid_cmp Object) (id : Oid) : Type 0 where

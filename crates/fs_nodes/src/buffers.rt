@@ -4,7 +4,8 @@ ghost use Rattle.std.specs.FinMap as map;
 ghost use Rattle.std.specs.FinMap.{FinMap};
 ghost use Rattle.kern_model.specs.Keys.{oid_cmp};
 ghost use Rattle.kern_model.specs.declared.objects.Object.{Object as Value};
-ghost use Rattle.fs_nodes.specs.Nodes.{Fit, ForBytes, ForObject, IsStream, fitting};
+ghost use Rattle.kern_model.specs.Maps.{IfPresent};
+ghost use Rattle.fs_nodes.specs.Nodes.{FitsPipe, ForBytes, IsStream, fitting};
 
 use crate::NoMemory;
 use kern_model::{Object, Oid};
@@ -24,7 +25,7 @@ pub trait Buffers {
     /// Appends bytes to a pipe or FIFO.
     fn put_bytes(&mut self, id: &Oid, bytes: &[u8]) -> Result<(), NoMemory>
         requires stream { IsStream (objects self.old) id.now }
-        requires room { ForObject (objects self.old) id.now (λ o. Fit o.bytes bytes.now) }
+        requires room { IfPresent (objects self.old) id.now (λ o. FitsPipe o.bytes bytes.now) }
         ensures put { ForBytes (objects self.old) id.now (λ old with_bytes. OnOk result (objects self.new ≡ with_bytes (old ++ bytes.now))) }
         ensures err { OnErr result (objects self.new ≡ objects self.old) }
         ensures rest { rest_same self.old self.new };
@@ -33,8 +34,8 @@ pub trait Buffers {
     /// It does not allocate.
     fn take_bytes(&mut self, id: &Oid, buf: &mut [u8]) -> usize
         requires stream { IsStream (objects self.old) id.now }
-        ensures count { ForObject (objects self.old) id.now (λ o. result ≡ fitting o.bytes buf.old) }
-        ensures taken { ForObject (objects self.old) id.now (λ o. buf.new ≡ take result o.bytes ++ drop result buf.old) }
+        ensures count { IfPresent (objects self.old) id.now (λ o. result ≡ fitting o.bytes buf.old) }
+        ensures taken { IfPresent (objects self.old) id.now (λ o. buf.new ≡ take result o.bytes ++ drop result buf.old) }
         ensures left { ForBytes (objects self.old) id.now (λ old with_bytes. objects self.new ≡ with_bytes (drop result old)) }
         ensures rest { rest_same self.old self.new };
 

@@ -31,14 +31,14 @@ impl Drop for Index {
 }
 
 impl Model for Index {
-    ghost use Rattle.std.specs.Coded.{codes};
     ghost use Rattle.lab_lattice.specs.Label.{label_code};
     ghost use Rattle.fs_nodes.specs.Nodes.{NodeKeys, keys_code};
     ghost use Rattle.fs_nodes.specs.Keys.{keys_in, numbers_in};
+    ghost use Rattle.kern_model.proofs.StateCode.{oid_code};
 
     ghost Value = { NodeKeys };
 
-    ghost coded = { keys_code (Prim.hlevel (codes, label_code)) label_code };
+    ghost coded = { keys_code oid_code label_code };
 
     ghost view = { λ x. record { keys = keys_in x.by_label; numbers = numbers_in x.by_label } };
 }

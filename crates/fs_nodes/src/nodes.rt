@@ -12,7 +12,8 @@ ghost use Rattle.kern_model.specs.declared.limits.TheConstants.{MAX_OBJECTS};
 ghost use Rattle.kern_model.specs.declared.numbers.Oid.{Oid as Number};
 ghost use Rattle.kern_model.specs.declared.objects.Object.{Object as Value};
 ghost use Rattle.fs_nodes.specs.Lending.{LendsSlot};
-ghost use Rattle.fs_nodes.specs.Nodes.{Fit, ForBytes, ForObject, IsFile, IsTooBig, fitting, next_in, no_nodes, with_new, with_object, with_written};
+ghost use Rattle.kern_model.specs.Maps.{IfPresent};
+ghost use Rattle.fs_nodes.specs.Nodes.{FitsPipe, ForBytes, IsFile, IsTooBig, fitting, next_in, no_nodes, with_new, with_object, with_written};
 
 use crate::NoMemory;
 use crate::buffers::Buffers;
@@ -83,15 +84,13 @@ impl Drop for Nodes {
 }
 
 impl Model for Nodes {
-    ghost use Rattle.std.specs.FinSet as set;
-    ghost use Rattle.std.specs.Coded.{codes};
-    ghost use Rattle.cap_bits.specs.Cap.{cap_cmp, cap_code};
     ghost use Rattle.lab_lattice.specs.Label.{label_code};
     ghost use Rattle.fs_nodes.specs.Nodes.{NodeSlots, IsPlaced, objects_in, slots_code};
+    ghost use Rattle.kern_model.proofs.StateCode.{object_code, oid_code};
 
     ghost Value = { NodeSlots };
 
-    ghost coded = { slots_code (Prim.hlevel (codes, label_code)) (Prim.hlevel (codes, set.code {R = cap_cmp} cap_code, label_code)) label_code };
+    ghost coded = { slots_code oid_code object_code label_code };
 
     ghost view = { λ n. record { table = record { objects = objects_in n.slots n.index.keys; numbers = n.index.numbers }; slots = n.slots; keys = n.index.keys } };
 
@@ -173,7 +172,7 @@ impl Nodes {
     /// Gives an object other attributes. It does not allocate.
     pub fn set_attr(&mut self, id: &Oid, attr: Attr)
         requires { IsThere self.old.table.objects id.now }
-        ensures { ForObject self.old.table.objects id.now (λ o. self.new.table ≡ with_object self.old.table id.now (record o { attr = attr })) }
+        ensures { IfPresent self.old.table.objects id.now (λ o. self.new.table ≡ with_object self.old.table id.now (record o { attr = attr })) }
     {
         self.object_mut(id).attr = attr;
     }
@@ -181,7 +180,7 @@ impl Nodes {
     /// Gives an object another label. It does not allocate.
     pub fn set_label(&mut self, id: &Oid, label: Label)
         requires { IsThere self.old.table.objects id.now }
-        ensures { ForObject self.old.table.objects id.now (λ o. self.new.table ≡ with_object self.old.table id.now (record o { label = label })) }
+        ensures { IfPresent self.old.table.objects id.now (λ o. self.new.table ≡ with_object self.old.table id.now (record o { label = label })) }
     {
         self.object_mut(id).label = label;
     }
@@ -189,7 +188,7 @@ impl Nodes {
     /// Empties a file. It does not allocate.
     pub fn truncate(&mut self, id: &Oid)
         requires { IsFile self.old.table.objects id.now }
-        ensures { ForObject self.old.table.objects id.now (λ o. self.new.table ≡ with_object self.old.table id.now (record o { bytes = [] })) }
+        ensures { IfPresent self.old.table.objects id.now (λ o. self.new.table ≡ with_object self.old.table id.now (record o { bytes = [] })) }
     {
         let empty = ByteList::new(self.alloc);
         self.object_mut(id).bytes = empty;
@@ -198,9 +197,9 @@ impl Nodes {
     /// Writes bytes into a file from an offset on.
     pub fn write_at(&mut self, id: &Oid, at: u32, bytes: &[u8]) -> Result<(), WriteError>
         requires { IsFile self.old.table.objects id.now }
-        ensures written { ForObject self.old.table.objects id.now (λ o. OnOk result (self.new.table ≡ with_written self.old.table id.now o at bytes.now)) }
-        ensures past_end { ForObject self.old.table.objects id.now (λ o. (result ≡ Err WriteError.PastEnd) ↔ (length o.bytes < at)) }
-        ensures too_big { ForObject self.old.table.objects id.now (λ o. (result ≡ Err WriteError.TooBig) ↔ IsTooBig o.bytes at bytes.now) }
+        ensures written { IfPresent self.old.table.objects id.now (λ o. OnOk result (self.new.table ≡ with_written self.old.table id.now o at bytes.now)) }
+        ensures past_end { IfPresent self.old.table.objects id.now (λ o. (result ≡ Err WriteError.PastEnd) ↔ (length o.bytes < at)) }
+        ensures too_big { IfPresent self.old.table.objects id.now (λ o. (result ≡ Err WriteError.TooBig) ↔ IsTooBig o.bytes at bytes.now) }
         ensures err { OnErr result (self.new.table ≡ self.old.table) }
     {
         write_over(&mut self.object_mut(id).bytes, at, bytes)
@@ -208,7 +207,7 @@ impl Nodes {
 
     /// The bytes of an object from an offset on: `n` of them, or all that are left where fewer are.
     pub fn read_at(&self, id: &Oid, at: u32, n: u32) -> Result<ByteList, NoMemory>
-        ensures { ForObject self.now.table.objects id.now (λ o. IfOk result (λ bytes. bytes ≡ take n (drop at o.bytes))) }
+        ensures { IfPresent self.now.table.objects id.now (λ o. IfOk result (λ bytes. bytes ≡ take n (drop at o.bytes))) }
     {
         let Some(object) = self.get(id) else {
             return Ok(ByteList::new(self.alloc));

@@ -68,7 +68,7 @@ impl Generator {
     }
 
     /// Appends the next piece to a text, and returns whether one was left. At an error, which is always out of memory, the
-    /// piece stays the next one, and the text may have a part of it.
+    /// piece stays the next one, and the text may have a prefix of it.
     #[tactic(auto, using(crate::proofs::PieceLemmas::no_line_left, crate::proofs::PieceLemmas::line_left))]
     pub fn put_next(&mut self, text: &mut Vec<u8>) -> Result<bool, NoMemory>
         ensures given { IfOk result (λ given. IsTrue given ↔ (0 < length self.old)) }

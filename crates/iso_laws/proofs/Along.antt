@@ -21,7 +21,7 @@ use Rattle.kern_model.specs.FileRows.{on_descriptor, or_not_open}
 use Rattle.kern_model.specs.Keys.{Spot}
 use Rattle.kern_model.specs.Kinds.{is_dir}
 use Rattle.kern_model.specs.Refusals.{is_denial}
-use Rattle.kern_model.specs.Row.{Row, Need, Soft, Refuse, Fail, Commit, need_if, Subject, End, Stopped, Refused, Done, judge, verdict_of, is_denied, noted}
+use Rattle.kern_model.specs.Row.{Row, Need, Soft, Refuse, Fail, Commit, need_if, Subject, End, Stopped, Refused, Done, judge, verdict_of, is_denied, exercises_after}
 use Rattle.kern_model.specs.Rules.{on_object, mac_read}
 use Rattle.kern_model.specs.State.{State, Process, Change, look, object_at, root}
 use Rattle.kern_model.specs.Walk.{Found, Start, Entry, enter, or_missing, to_object, to_new_name, to_entry, to_entry_of_object, walk_from, walk, reach, start_of, on_path, last_place}
@@ -170,10 +170,10 @@ module _ (excluded : Rec → Bool) (a : Subject) (CheckHolds : Check → Type 0)
   unfolding judge
   along_end used (Need c r) h =
       cond_satisfies (λ j. list_any excluded j.used ≡ false → P j.end) (is_denied (verdict_of a c)) _ _ (λ _ _. stopped c.name c.place)
-      (λ granted inside. along_end (noted a c (verdict_of a c) used) r (h.1 (check_passes excluded a c used r granted inside)) inside)
+      (λ granted inside. along_end (exercises_after a c (verdict_of a c) used) r (h.1 (check_passes excluded a c used r granted inside)) inside)
   along_end used (Soft c r w) h =
       cond_satisfies (λ j. list_any excluded j.used ≡ false → P j.end) (is_denied (verdict_of a c)) _ _ (λ _. along_end used w h.1.1)
-      (λ granted inside. along_end (noted a c (verdict_of a c) used) r (h.1.0 (check_passes excluded a c used r granted inside)) inside)
+      (λ granted inside. along_end (exercises_after a c (verdict_of a c) used) r (h.1.0 (check_passes excluded a c used r granted inside)) inside)
   along_end used (Refuse e b r) h = cond_satisfies (λ j. list_any excluded j.used ≡ false → P j.end) b _ _ (λ _ _. refused e h.0) (λ not. along_end used r (h.1 not))
   along_end used (Fail e) h = λ _. refused e h
   along_end used (Commit cs answer own) h = λ _. done cs answer own h

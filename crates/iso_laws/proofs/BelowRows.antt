@@ -14,7 +14,7 @@ use Rattle.kern_model.specs.declared.numbers.Pid.{Pid}
 use Rattle.cap_bits.specs.declared.cap.Cap.{Cap}
 use Rattle.kern_model.specs.declared.objects.Object.{Object}
 use Rattle.kern_model.specs.declared.records.Rec.{Rec}
-use Rattle.kern_model.specs.Row.{Row, Need, Soft, Refuse, Fail, Commit, End, Stopped, Refused, Done, judge, verdict_of, is_denied, noted, exercise_with}
+use Rattle.kern_model.specs.Row.{Row, Need, Soft, Refuse, Fail, Commit, End, Stopped, Refused, Done, judge, verdict_of, is_denied, exercises_after, exercise_with}
 use Rattle.kern_model.specs.Rules.{cap_of}
 use Rattle.kern_model.specs.State.{State, Process, object_at, stub_object}
 use Rattle.kern_model.specs.Step.{subject, settled, own_of}
@@ -58,7 +58,7 @@ module _ (top : Label) (who : Pid) (p : Process) (number : dominates top who.lab
   exercise_below c None h = tt
   exercise_below c (Some with) h = ((number, (label, h)), tt)
 
-  noted_below : (c : Check) (v : Verdict) (used : List Rec) → CheckBelow top c → AllBelow top used → AllBelow top (noted (subject who p) c v used)
+  noted_below : (c : Check) (v : Verdict) (used : List Rec) → CheckBelow top c → AllBelow top used → AllBelow top (exercises_after (subject who p) c v used)
   noted_below c Passed used h all = all
   noted_below c Exercised used h all = all-append (HasLabelsBelow top) used _ all (exercise_below c (cap_of c.name) h)
   noted_below c Denied used h all = all
@@ -67,10 +67,10 @@ module _ (top : Label) (who : Pid) (p : Process) (number : dominates top who.lab
   unfolding judge
   used_below used (Need c r) h all =
       cond_satisfies (λ j. AllBelow top j.used) (is_denied (verdict_of (subject who p) c)) _ _ (λ _. all)
-      (λ _. used_below (noted (subject who p) c (verdict_of (subject who p) c) used) r h.1 (noted_below c _ used h.0 all))
+      (λ _. used_below (exercises_after (subject who p) c (verdict_of (subject who p) c) used) r h.1 (noted_below c _ used h.0 all))
   used_below used (Soft c r w) h all =
       cond_satisfies (λ j. AllBelow top j.used) (is_denied (verdict_of (subject who p) c)) _ _
-      (λ _. used_below used w h.1.1 all) (λ _. used_below (noted (subject who p) c (verdict_of (subject who p) c) used) r h.1.0 (noted_below c _ used h.0 all))
+      (λ _. used_below used w h.1.1 all) (λ _. used_below (exercises_after (subject who p) c (verdict_of (subject who p) c) used) r h.1.0 (noted_below c _ used h.0 all))
   used_below used (Refuse e b r) h all = cond_satisfies (λ j. AllBelow top j.used) b _ _ (λ _. all) (λ _. used_below used r h all)
   used_below used (Fail e) h all = all
   used_below used (Commit cs answer own) h all = all
@@ -79,10 +79,10 @@ module _ (top : Label) (who : Pid) (p : Process) (number : dominates top who.lab
   unfolding judge
   end_below used (Need c r) h =
       cond_satisfies (λ j. EndBelow top j.end) (is_denied (verdict_of (subject who p) c)) _ _ (λ _. tt)
-      (λ _. end_below (noted (subject who p) c (verdict_of (subject who p) c) used) r h.1)
+      (λ _. end_below (exercises_after (subject who p) c (verdict_of (subject who p) c) used) r h.1)
   end_below used (Soft c r w) h =
       cond_satisfies (λ j. EndBelow top j.end) (is_denied (verdict_of (subject who p) c)) _ _ (λ _. end_below used w h.1.1)
-      (λ _. end_below (noted (subject who p) c (verdict_of (subject who p) c) used) r h.1.0)
+      (λ _. end_below (exercises_after (subject who p) c (verdict_of (subject who p) c) used) r h.1.0)
   end_below used (Refuse e b r) h = cond_satisfies (λ j. EndBelow top j.end) b _ _ (λ _. tt) (λ _. end_below used r h)
   end_below used (Fail e) h = tt
   end_below used (Commit cs answer own) h = h

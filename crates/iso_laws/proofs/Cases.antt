@@ -18,9 +18,9 @@ use Rattle.kern_model.specs.declared.objects.Attr.{Attr}
 use Rattle.kern_model.specs.declared.objects.Kind.TheVariants as kind
 use Rattle.kern_model.specs.declared.objects.Object.{Object}
 use Rattle.kern_model.specs.declared.records.Rec.{Rec}
-use Rattle.kern_model.specs.Create.{made, has_object_number}
+use Rattle.kern_model.specs.Create.{creation, has_object_number}
 use Rattle.kern_model.specs.Descriptors.{Opened, closing, open_count, with_descriptor}
-use Rattle.kern_model.specs.FileRows.{open_object, opening, moved, with_bytes, piped, rewritten}
+use Rattle.kern_model.specs.FileRows.{open_object, opening, offset_change, with_bytes, pipe_creation, content_change}
 use Rattle.kern_model.specs.Keys.{same_oid}
 use Rattle.kern_model.specs.Entries.{is_empty, is_removed, link_count}
 use Rattle.kern_model.specs.Kinds.{is_dir as dir_kind, is_file, is_fifo, is_mode, is_permission, is_stream}
@@ -96,11 +96,11 @@ pub record EffectCases (excluded : Rec → Bool) (s : State) (who : Pid) (p : Pr
       → IsDir s.objects dir → Passes excluded (subject who p) (mac_write s p into there_place)
       → IsMove s dir name id into new → (ArgsValid → is_name new ≡ true) → P (DropEntry (dir, name) ∷ SetEntry (into, new) id ∷ [])
   -- an object is made
-  pub create : (dir : Oid) (name : Name) (o : Object) (place : Place) → MayCreate excluded s who p ArgsValid dir name o place → P (made s p.label dir name o)
+  pub create : (dir : Oid) (name : Name) (o : Object) (place : Place) → MayCreate excluded s who p ArgsValid dir name o place → P (creation s p.label dir name o)
   -- the caller gets a further descriptor, of what another one refers to
   pub duplicate : (fd : ℕ) (f : Opened) → IsOpen s p fd f → open_count p + 1 ≤ MAX_DESCRIPTORS → P (SetProcess who (with_descriptor p f.did) ∷ [])
   -- a descriptor of the caller gets another offset
-  pub seek : (fd : ℕ) (f : Opened) (offset : ℕ) → IsOpen s p fd f → P (moved f offset ∷ [])
+  pub seek : (fd : ℕ) (f : Opened) (offset : ℕ) → IsOpen s p fd f → P (offset_change f offset ∷ [])
   -- a pipe or FIFO of a descriptor, whose mac_write passed, gets other bytes
   pub write_stream : (fd : ℕ) (f : Opened) (bytes : List ℕ) → IsOpen s p fd f → Passes excluded (subject who p) (mac_write s p f.description.object Handle)
       → is_stream (open_object s f).kind ≡ true → length bytes ≤ MAX_PIPE_BYTES → P (with_bytes s f.description.object bytes ∷ [])
@@ -108,18 +108,18 @@ pub record EffectCases (excluded : Rec → Bool) (s : State) (who : Pid) (p : Pr
   pub write_file : (fd : ℕ) (f : Opened) (attr : Attr) (bytes : List ℕ) (offset : ℕ) → IsOpen s p fd f
       → Passes excluded (subject who p) (mac_write s p f.description.object Handle) → (open_object s f).kind ≡ kind.File → is_mode attr.mode ≡ true
       → length bytes ≤ MAX_FILE_BYTES
-      → P (rewritten f.description.object (open_object s f) bytes attr ∷ moved f offset ∷ [])
+      → P (content_change f.description.object (open_object s f) bytes attr ∷ offset_change f offset ∷ [])
   -- an object is opened
   pub open_existing : (id : Oid) (flags : OpenFlags) (place : Place) → MayOpen excluded s who p id flags place → P (opening s who p id flags)
   -- a file that may be written loses its bytes, gets other attributes, and is opened
   pub open_emptied : (id : Oid) (flags : OpenFlags) (place : Place) (attr : Attr) → (may : MayOpen excluded s who p id flags place) → flags.w ≡ true
       → may.target.object.kind ≡ kind.File → is_mode attr.mode ≡ true
-      → P (rewritten id (object_at s id) [] attr ∷ opening s who p id flags)
+      → P (content_change id (object_at s id) [] attr ∷ opening s who p id flags)
   -- a file is made and opened
   pub open_made : (dir : Oid) (name : Name) (o : Object) (place : Place) (flags : OpenFlags) → MayCreate excluded s who p ArgsValid dir name o place → o.kind ≡ kind.File
-      → HasRoom s p → P (made s p.label dir name o ++ opening s who p (next_object s p.label) flags)
+      → HasRoom s p → P (creation s p.label dir name o ++ opening s who p (next_object s p.label) flags)
   -- a pipe is made and opened at both ends
-  pub pipe : has_object_number s p.label ≡ true → open_count p + 2 ≤ MAX_DESCRIPTORS → drawn s.description_numbers p.label + 2 ≤ MAX_DESCRIPTIONS → P (piped s who p)
+  pub pipe : has_object_number s p.label ≡ true → open_count p + 2 ≤ MAX_DESCRIPTORS → drawn s.description_numbers p.label + 2 ≤ MAX_DESCRIPTIONS → P (pipe_creation s who p)
   -- a descriptor of the caller closes
   pub close : (fd : ℕ) → P (SetProcess who (without_fd p fd) ∷ closing s (has_fd who fd))
   -- an object whose mac_write passed gets other attributes

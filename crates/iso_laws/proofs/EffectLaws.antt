@@ -16,7 +16,7 @@ use Rattle.kern_model.specs.declared.numbers.Pid.{Pid}
 use Rattle.kern_model.specs.declared.objects.Object.{Object}
 use Rattle.kern_model.specs.declared.records.Rec.{Rec}
 use Rattle.kern_model.specs.declared.records.Rec.TheVariants as rec
-use Rattle.kern_model.specs.Create.{made}
+use Rattle.kern_model.specs.Create.{creation}
 use Rattle.kern_model.specs.Descriptors.{Opened, closing}
 use Rattle.kern_model.specs.Drawing.{IsDrawnBetween}
 use Rattle.kern_model.specs.Exec.{exec_caps, exec_ids}
@@ -122,7 +122,7 @@ module _ (There : Oid → Type 0) (s : State) (leads : LeadsTo There s) (who : P
   made_there : (o : Object) → IsThere (map.insert s.objects (next_object s p.label) o) (next_object s p.label)
   made_there o = record { value = o; is = get-insert_same oid_cmp_total s.objects (next_object s p.label) o }
 
-  made_numbered : (dir : Oid) (name : Name) (o : Object) → AreNumberedFrom s (made s p.label dir name o)
+  made_numbered : (dir : Oid) (name : Name) (o : Object) → AreNumberedFrom s (creation s p.label dir name o)
   made_numbered dir name o = (next_is_above s.object_numbers p.label, (inr (next_drawn s.object_numbers p.label), (inr (made_there o), tt)))
 
   -- what opens an object is numbered in order where the object is present
@@ -177,7 +177,7 @@ module _ (There : Oid → Type 0) (s : State) (leads : LeadsTo There s) (who : P
         let there : There id = walked_there id may.walked in
         ((inl there, opening_numbered (changed s (SetObject id (record (object_at s id) { attr = attr; bytes = [] }))) id flags refl (inl there)), tt)
     numbered_effect cs own (OpenMade dir name o place flags making file room) =
-        let before : List Change = made s p.label dir name o in (
+        let before : List Change = creation s p.label dir name o in (
           numbered-append There (IsForkedBy who None) s before (opening s who p (next_object s p.label) flags) s (made_numbered dir name o)
               (opening_numbered (changed_by s before) (next_object s p.label) flags refl (inr (made_there o))),
           tt,

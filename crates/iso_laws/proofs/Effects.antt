@@ -26,11 +26,11 @@ use Rattle.kern_model.specs.declared.records.Rec.{Rec}
 use Rattle.kern_model.specs.declared.records.Rec.TheVariants as rec
 use Rattle.kern_model.specs.AttrRows.{with_attr}
 use Rattle.kern_model.specs.Arguments.{are_flags, has_names, is_call}
-use Rattle.kern_model.specs.Create.{made, has_object_number}
+use Rattle.kern_model.specs.Create.{creation, has_object_number}
 use Rattle.kern_model.specs.Descriptors.{Opened, closing, with_descriptor}
 use Rattle.kern_model.specs.Entries.{is_empty, is_removed, is_under, link_count}
 use Rattle.kern_model.specs.Exec.{exec_caps, exec_ids}
-use Rattle.kern_model.specs.FileRows.{open_object, opening, moved, with_bytes, rewritten, piped, place_in, written_over, has_free_descriptors, has_descriptions}
+use Rattle.kern_model.specs.FileRows.{open_object, opening, offset_change, with_bytes, content_change, pipe_creation, place_in, written_over, has_free_descriptors, has_descriptions}
 use Rattle.kern_model.specs.Keys.{same_oid}
 use Rattle.kern_model.specs.Kinds.{is_dir, is_file, is_fifo, is_mode, is_permission, is_stream, masked, permissions}
 use Rattle.kern_model.specs.ProcessRows.{child_of, ending_of}
@@ -157,10 +157,10 @@ module _ (Known : Check → Type 0) (Not : Bool → Type 0) (Given : Premise →
         → (Given HasNames → is_name new ≡ true)
         → Effect (DropEntry (dir, name) ∷ SetEntry (into, new) id ∷ []) None
     -- an object is made
-    Create : (dir : Oid) (name : Name) (o : Object) (place : Place) → Creates dir name o place → Effect (made s p.label dir name o) None
+    Create : (dir : Oid) (name : Name) (o : Object) (place : Place) → Creates dir name o place → Effect (creation s p.label dir name o) None
     -- a descriptor is shared, moves, or closes
     Duplicate : (fd : ℕ) (f : Opened) → IsOpen s p fd f → Not (not (has_free_descriptors p 1)) → Effect (SetProcess who (with_descriptor p f.did) ∷ []) None
-    Seek : (fd : ℕ) (f : Opened) (offset : ℕ) → IsOpen s p fd f → Effect (moved f offset ∷ []) None
+    Seek : (fd : ℕ) (f : Opened) (offset : ℕ) → IsOpen s p fd f → Effect (offset_change f offset ∷ []) None
     Close : (fd : ℕ) → Effect (SetProcess who (without_fd p fd) ∷ closing s (has_fd who fd)) None
     -- bytes come out of a pipe or FIFO, or go into one
     ReadStream : (fd : ℕ) (f : Opened) (n : ℕ) → IsOpen s p fd f → Known (mac_write s p f.description.object Handle) → is_stream (open_object s f).kind ≡ true
@@ -174,17 +174,17 @@ module _ (Known : Check → Type 0) (Not : Bool → Type 0) (Given : Premise →
         → Not (nat_lt (length (open_object s f).bytes) (place_in (open_object s f) f))
         → Not (nat_lt MAX_FILE_BYTES (place_in (open_object s f) f + length bytes)) → (is_mode (open_object s f).attr.mode ≡ true → is_mode attr.mode ≡ true)
         → Effect
-        (rewritten f.description.object (open_object s f) (written_over (open_object s f).bytes (place_in (open_object s f) f) bytes) attr ∷ moved f offset ∷ [])
+        (content_change f.description.object (open_object s f) (written_over (open_object s f).bytes (place_in (open_object s f) f) bytes) attr ∷ offset_change f offset ∷ [])
         None
     -- an object is opened, emptied and opened, or made and opened
     Open : (id : Oid) (flags : OpenFlags) (place : Place) → Opens id flags place → Effect (opening s who p id flags) None
     OpenEmptied : (id : Oid) (flags : OpenFlags) (place : Place) (attr : Attr) → Opens id flags place → (flags.t && is_file (object_at s id).kind) ≡ true
         → (is_mode (object_at s id).attr.mode ≡ true → is_mode attr.mode ≡ true)
-        → Effect (rewritten id (object_at s id) [] attr ∷ opening s who p id flags) None
+        → Effect (content_change id (object_at s id) [] attr ∷ opening s who p id flags) None
     OpenMade : (dir : Oid) (name : Name) (o : Object) (place : Place) (flags : OpenFlags) → Creates dir name o place → is_file o.kind ≡ true → Room
-        → Effect (made s p.label dir name o ++ opening s who p (next_object s p.label) flags) None
+        → Effect (creation s p.label dir name o ++ opening s who p (next_object s p.label) flags) None
     -- a pipe is made and opened at both ends
-    MakePipe : Not (not (has_object_number s p.label)) → Not (not (has_free_descriptors p 2)) → Not (not (has_descriptions s p 2)) → Effect (piped s who p) None
+    MakePipe : Not (not (has_object_number s p.label)) → Not (not (has_free_descriptors p 2)) → Not (not (has_descriptions s p 2)) → Effect (pipe_creation s who p) None
     -- an object gets other attributes, but no other capability sets
     SetAttr : (id : Oid) (attr : Attr) (place : Place) → Reaches s p id → Known (mac_write s p id place)
         → (is_mode (object_at s id).attr.mode ≡ true → Given InRange → is_mode attr.mode ≡ true) → attr.caps ≡ (object_at s id).attr.caps

@@ -19,9 +19,9 @@ use Rattle.kern_model.specs.declared.checks.Place.{Place}
 use Rattle.kern_model.specs.declared.objects.Attr.{Attr}
 use Rattle.kern_model.specs.declared.objects.Kind.TheVariants as kind
 use Rattle.kern_model.specs.declared.objects.Object.{Object}
-use Rattle.kern_model.specs.Create.{drawing, made}
+use Rattle.kern_model.specs.Create.{drawing, creation}
 use Rattle.kern_model.specs.Descriptors.{Opened, lowest_free, with_descriptor}
-use Rattle.kern_model.specs.FileRows.{open_object, opening, moved, new_pipe, on_pipe, second_description, piped}
+use Rattle.kern_model.specs.FileRows.{open_object, opening, offset_change, new_pipe, on_pipe, second_description, pipe_creation}
 use Rattle.kern_model.specs.Keys.{did_cmp}
 use Rattle.kern_model.specs.Kinds.{is_fifo, is_stream}
 use Rattle.kern_model.specs.ProcessRows.{child_of}
@@ -102,7 +102,7 @@ module _ (l : Label) (s : State) (kept : Kept l s) (valid : IsValid s) (who : Pi
   kept_same : (id : Oid) (o new : Object) → map.get s.objects id ≡ Some o → new.kind ≡ o.kind → low l id.label ≡ low l new.label → Kept l (changed s (SetObject id new))
   kept_same id o new at same side = kept_object l s kept id new side (λ did d e on stream. kept.streams did d o e (ap (map.get s.objects) on ∙ at) (ap is_stream (sym same) ∙ stream))
 
-  kept_made : (ArgsValid : Type 0) (dir : Oid) (name : Name) (o : Object) (place : Place) → MayCreate (crosses l) s who p ArgsValid dir name o place → Kept l (changed_by s (made s p.label dir name o))
+  kept_made : (ArgsValid : Type 0) (dir : Oid) (name : Name) (o : Object) (place : Place) → MayCreate (crosses l) s who p ArgsValid dir name o place → Kept l (changed_by s (creation s p.label dir name o))
   kept_made ArgsValid dir name o place making =
       let new : Oid = next_object s p.label in
       kept_with l (changed s (SetObject new o)) (kept_new new o (ap (low l) (sym making.fresh.label)) (next_absent s valid p.label)) _ _ s.process_numbers s.description_numbers
@@ -116,7 +116,7 @@ module _ (l : Label) (s : State) (kept : Kept l s) (valid : IsValid s) (who : Pi
       kept_fds (changed drawn_t (SetDescription new d)) (kept_description l drawn_t (kept_with l t kept_t t.entries t.object_numbers t.process_numbers _) new d side stream) _ (one_beside p.fds own.fds new (sym own.label))
 
   -- a descriptor gets another offset
-  kept_moved : (t : State) → Kept l t → t.descriptions ≡ s.descriptions → (fd : ℕ) (f : Opened) (offset : ℕ) → IsOpen s p fd f → Kept l (changed t (moved f offset))
+  kept_moved : (t : State) → Kept l t → t.descriptions ≡ s.descriptions → (fd : ℕ) (f : Opened) (offset : ℕ) → IsOpen s p fd f → Kept l (changed t (offset_change f offset))
   kept_moved t kept_t same fd f offset open_is =
       let there : map.get t.descriptions f.did ≡ Some f.description = ap (λ (m : FinMap did_cmp Description). map.get m f.did) same ∙ open_is.is in
       kept_description l t kept_t f.did (record f.description { offset = offset }) (kept_t.descriptions f.did f.description there) (λ o. kept_t.streams f.did f.description o there)
@@ -137,7 +137,7 @@ module _ (l : Label) (s : State) (kept : Kept l s) (valid : IsValid s) (who : Pi
       id flags (opening_low l s kept who p id flags place may)
       (λ o e stream. absurd (true≢false (sym stream ∙ ap (λ (x : Object). is_stream x.kind) (some_same o new (sym e ∙ get-insert_same oid_cmp_total s.objects id new)) ∙ no_stream)))
 
-  kept_piped : Kept l (changed_by s (piped s who p))
+  kept_piped : Kept l (changed_by s (pipe_creation s who p))
   kept_piped =
       let o : Object = new_pipe p in
       let new : Oid = next_object s p.label in
@@ -187,7 +187,7 @@ module _ (l : Label) (s : State) (kept : Kept l s) (valid : IsValid s) (who : Pi
     open_existing = λ id flags place may.
         kept_opened s kept id flags (opening_low l s kept who p id flags place may) (λ o e. opening_side l s kept who p id flags place may o (some_same may.target.object o (sym may.target.is ∙ e)));
     open_emptied = λ id flags place attr may writes file mode. kept_emptied id flags place attr may file;
-    open_made = λ dir name o place flags making file room. kept_opened (changed_by s (made s p.label dir name o)) (kept_made ArgsValid dir name o place making) (next_object s p.label) flags (λ h. h) (λ x e stream. refl);
+    open_made = λ dir name o place flags making file room. kept_opened (changed_by s (creation s p.label dir name o)) (kept_made ArgsValid dir name o place making) (next_object s p.label) flags (λ h. h) (λ x e stream. refl);
     pipe = λ left free numbers. kept_piped;
     close = λ fd.
         kept_closed l s kept valid (has_fd who fd) (changed s (SetProcess who (without_fd p fd)))

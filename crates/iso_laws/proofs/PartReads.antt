@@ -30,7 +30,7 @@ use Rattle.kern_model.specs.Descriptors.{Opened, opened}
 use Rattle.kern_model.specs.Kinds.{is_dir}
 use Rattle.kern_model.specs.State.{State, Process, Description, drawn, object_at, look, stub, stub_object, root}
 use Rattle.kern_model.specs.Rules.{cap_of, same_label, mode_allows, of_object, mac_read, mac_write, dac_search, mac_read_of, mac_write_of}
-use Rattle.kern_model.specs.Row.{Row, Need, Refuse, Subject, verdict_of, is_denied, noted, exercise_with, may}
+use Rattle.kern_model.specs.Row.{Row, Need, Refuse, Subject, verdict_of, is_denied, exercises_after, exercise_with, may}
 use Rattle.kern_model.specs.Walk.{Found, Start, Entry, walk_from, walk, reach, start_of, enter, or_missing, to_object}
 use Rattle.kern_model.specs.Step.{subject}
 use Rattle.kern_model.specs.Isolation.{low, crosses, is_mac, differ, differs_from, Kept}
@@ -52,7 +52,7 @@ cannot_pass l a c with fails named mac apart passes =
     elim (may a.effective (cap_of c.name)) as (λ b. verdict_of a c ≡ cond b Exercised Denied → ⊥) [
       | true ↦ λ v.
           let inside : list_any (crosses l) (exercise_with a c (Some with)) ≡ false =
-          ap (λ o. list_any (crosses l) (exercise_with a c o)) (sym named) ∙ ap (λ w. list_any (crosses l) (noted a c w [])) (sym v) ∙ passes.inside in
+          ap (λ o. list_any (crosses l) (exercise_with a c o)) (sym named) ∙ ap (λ w. list_any (crosses l) (exercises_after a c w [])) (sym v) ∙ passes.inside in
           let is : list_any (crosses l) (exercise_with a c (Some with)) ≡ true = or_left _ _ (and_from (is_mac with) _ mac (or_left _ _ apart)) in
           let no : true ≡ false = sym is ∙ inside in
           cc
@@ -102,7 +102,7 @@ new_side l a c with new named mac is_new fails passes =
     elim (may a.effective (cap_of c.name)) as (λ b. verdict_of a c ≡ cond b Exercised Denied → low l a.label ≡ low l new) [
       | true ↦ λ v.
           let inside : list_any (crosses l) (exercise_with a c (Some with)) ≡ false =
-          ap (λ o. list_any (crosses l) (exercise_with a c o)) (sym named) ∙ ap (λ w. list_any (crosses l) (noted a c w [])) (sym v) ∙ passes.inside in
+          ap (λ o. list_any (crosses l) (exercise_with a c o)) (sym named) ∙ ap (λ w. list_any (crosses l) (exercises_after a c w [])) (sym v) ∙ passes.inside in
           differ_false _ _
           (inner (is_mac with) (differ (low l a.label) (low l c.thing_label)) _ mac
           (ap (λ n. (is_mac with && (differ (low l a.label) (low l c.thing_label) || differs_from l (low l a.label) n)) || false) (sym is_new) ∙ inside))

@@ -13,7 +13,7 @@ use Rattle.kern_model.specs.Keys.{Spot}
 use Rattle.kern_model.specs.State.{State, SetEntry, look}
 use Rattle.kern_model.specs.Boot.{entry_for}
 use Rattle.kern_model.specs.Valid.{leads}
-use Rattle.kern_model.specs.World.{same_names, parent_names, given}
+use Rattle.kern_model.specs.World.{same_names, parent_names, object_with_path}
 use Rattle.kern_model.proofs.MapLemmas.{never_some, some_same}
 use Rattle.kern_model.proofs.WorldLemmas.{names_same}
 
@@ -66,7 +66,7 @@ has_last_name name (next ∷ names) =
 pub names_itself : (a : List Name) → same_names a a ≡ true
 names_itself a = (pointwise_decides (pointwise_decides unsigned_Decides) a a).1 refl
 
-pub given-append : (os ps : List WorldObject) (names : List Name) → given (os ++ ps) names ≡ option_or (given os names) (given ps names)
+pub given-append : (os ps : List WorldObject) (names : List Name) → object_with_path (os ++ ps) names ≡ option_or (object_with_path os names) (object_with_path ps names)
 given-append os ps names = find-append (λ (o : WorldObject). same_names o.path.names names) os ps
 
 or_none : (x y : Option WorldObject) → option_or x y ≡ None → x ≡ None
@@ -74,14 +74,14 @@ or_none None y e = refl
 or_none (Some o) y e = e
 
 -- names that two lists of objects do not give are not given by the first
-pub not_before : (os ps : List WorldObject) (names : List Name) → given (os ++ ps) names ≡ None → given os names ≡ None
-not_before os ps names e = or_none (given os names) (given ps names) (sym (given-append os ps names) ∙ e)
+pub not_before : (os ps : List WorldObject) (names : List Name) → object_with_path (os ++ ps) names ≡ None → object_with_path os names ≡ None
+not_before os ps names e = or_none (object_with_path os names) (object_with_path ps names) (sym (given-append os ps names) ∙ e)
 
 -- what holds of each object given before, and of the last one with its own names, holds of each object given
-pub given_after : (P : List Name → WorldObject → Type 0) (os : List WorldObject) (o : WorldObject) → ((names : List Name) (x : WorldObject) → given os names ≡ Some x → P names x) → P o.path.names o
-    → (names : List Name) (x : WorldObject) → given (os ++ o ∷ []) names ≡ Some x → P names x
+pub given_after : (P : List Name → WorldObject → Type 0) (os : List WorldObject) (o : WorldObject) → ((names : List Name) (x : WorldObject) → object_with_path os names ≡ Some x → P names x) → P o.path.names o
+    → (names : List Name) (x : WorldObject) → object_with_path (os ++ o ∷ []) names ≡ Some x → P names x
 given_after P os o before last names x e =
-    elim (given os names) as (λ w. given os names ≡ w → option_or w (given (o ∷ []) names) ≡ Some x → P names x) [
+    elim (object_with_path os names) as (λ w. object_with_path os names ≡ w → option_or w (object_with_path (o ∷ []) names) ≡ Some x → P names x) [
       | Some y ↦ λ f g. before names x (f ∙ g)
       | None ↦ λ _ g.
           elim (same_names o.path.names names) as (λ b. same_names o.path.names names ≡ b → cond b (Some o) None ≡ Some x → P names x) [

@@ -19,7 +19,7 @@ use Rattle.kern_model.specs.declared.calls.Answer.{Answer}
 use Rattle.kern_model.specs.declared.records.Rec.{Rec}
 use Rattle.kern_model.specs.Isolation.{crosses}
 use Rattle.kern_model.specs.State.{State, Process, Change}
-use Rattle.kern_model.specs.Row.{Row, Need, Soft, Refuse, Fail, Commit, need_if, Subject, End, Stopped, Refused, Done, CheckOutcome, judge, check_outcome, verdict_of, is_denied, noted, exercise_with}
+use Rattle.kern_model.specs.Row.{Row, Need, Soft, Refuse, Fail, Commit, need_if, Subject, End, Stopped, Refused, Done, CheckOutcome, judge, check_outcome, verdict_of, is_denied, exercises_after, exercise_with}
 use Rattle.kern_model.specs.Refusals.{is_denial}
 use Rattle.kern_model.specs.Rules.{cap_of}
 use Rattle.kern_model.specs.Descriptors.{Opened}
@@ -50,7 +50,7 @@ none_excluded (r ∷ recs) = none_excluded recs
 -- the check lets the call go on, and its exercise is not excluded
 pub record Passes (excluded : Rec → Bool) (a : Subject) (c : Check) : Type 0 where
   pub granted : is_denied (verdict_of a c) ≡ false
-  pub inside : list_any excluded (noted a c (verdict_of a c) []) ≡ false
+  pub inside : list_any excluded (exercises_after a c (verdict_of a c) []) ≡ false
 
 -- the end of a row, with the part of its changes
 abbrev pub part_end : Label → Label → End → End
@@ -81,7 +81,7 @@ pub record CheckSimulates (excluded : Rec → Bool) (a a' : Subject) (c c' : Che
   pub place : c'.place ≡ c.place
   pub denied : is_denied (verdict_of a c) ≡ true → is_denied (verdict_of a' c') ≡ true
   pub goes : Passes excluded a c
-      → (is_denied (verdict_of a' c') ≡ false) × ((used : List Rec) → noted a' c' (verdict_of a' c') used ≡ noted a c (verdict_of a c) used)
+      → (is_denied (verdict_of a' c') ≡ false) × ((used : List Rec) → exercises_after a' c' (verdict_of a' c') used ≡ exercises_after a c (verdict_of a c) used)
 
 -- the changes are the part of those that are given
 abbrev pub ArePartChanges : Label → Label → List Change → List Change → Type 0
@@ -104,12 +104,12 @@ none_after : (excluded : Rec → Bool) (xs ys : List Rec) → list_any excluded 
 none_after excluded xs ys h = (or_parts (list_any excluded xs) _ (sym (list_any-append excluded xs ys) ∙ h)).1
 
 module _ (excluded : Rec → Bool) (a : Subject) where
-  noted_prefix : (c : Check) (v : Verdict) (used : List Rec) → list_any excluded (noted a c v used) ≡ false → list_any excluded used ≡ false
+  noted_prefix : (c : Check) (v : Verdict) (used : List Rec) → list_any excluded (exercises_after a c v used) ≡ false → list_any excluded used ≡ false
   noted_prefix c Passed used h = h
   noted_prefix c Exercised used h = none_before excluded used _ h
   noted_prefix c Denied used h = h
 
-  noted_suffix : (c : Check) (v : Verdict) (used : List Rec) → list_any excluded (noted a c v used) ≡ false → list_any excluded (noted a c v []) ≡ false
+  noted_suffix : (c : Check) (v : Verdict) (used : List Rec) → list_any excluded (exercises_after a c v used) ≡ false → list_any excluded (exercises_after a c v []) ≡ false
   noted_suffix c Passed used h = refl
   noted_suffix c Exercised used h = none_after excluded used _ h
   noted_suffix c Denied used h = refl
@@ -119,10 +119,10 @@ module _ (excluded : Rec → Bool) (a : Subject) where
   unfolding judge
   used_before used (Need c r) =
       cond_satisfies (λ j. list_any excluded j.used ≡ false → list_any excluded used ≡ false) (is_denied (verdict_of a c)) _ _ (λ _ h. h)
-      (λ _ h. noted_prefix c _ used (used_before (noted a c (verdict_of a c) used) r h))
+      (λ _ h. noted_prefix c _ used (used_before (exercises_after a c (verdict_of a c) used) r h))
   used_before used (Soft c r w) =
       cond_satisfies (λ j. list_any excluded j.used ≡ false → list_any excluded used ≡ false) (is_denied (verdict_of a c)) _ _ (λ _ h. used_before used w h)
-      (λ _ h. noted_prefix c _ used (used_before (noted a c (verdict_of a c) used) r h))
+      (λ _ h. noted_prefix c _ used (used_before (exercises_after a c (verdict_of a c) used) r h))
   used_before used (Refuse e b r) =
       cond_satisfies (λ j. list_any excluded j.used ≡ false → list_any excluded used ≡ false) b _ _ (λ _ h. h) (λ _ h. used_before used r h)
   used_before used (Fail e) = λ h. h
@@ -130,7 +130,7 @@ module _ (excluded : Rec → Bool) (a : Subject) where
 
   -- a check after which a row goes on passes, where no exercise at the end is excluded
   pub check_passes : (c : Check) (used : List Rec) (r : Row) → is_denied (verdict_of a c) ≡ false
-      → list_any excluded (judge a (noted a c (verdict_of a c) used) r).used ≡ false → Passes excluded a c
+      → list_any excluded (judge a (exercises_after a c (verdict_of a c) used) r).used ≡ false → Passes excluded a c
   check_passes c used r granted h = record { granted = granted; inside = noted_suffix c _ used (used_before _ r h) }
 
 -- ---- rows whose checks do not matter
@@ -186,12 +186,12 @@ module _ (excluded : Rec → Bool) (Related : List Change → List Change → Ty
   -- a check, and what follows where it is denied
   simulates_check : (c c' : Check) (used : List Rec) (r r' : Row) (x x' : CheckOutcome) → CheckSimulates excluded a a' c c'
       → (list_any excluded x.used ≡ false → OutcomeMatches Related x x') → (Passes excluded a c → RowSimulates r r')
-      → list_any excluded (cond (is_denied (verdict_of a c)) x (judge a (noted a c (verdict_of a c) used) r)).used ≡ false
-      → OutcomeMatches Related (cond (is_denied (verdict_of a c)) x (judge a (noted a c (verdict_of a c) used) r))
-      (cond (is_denied (verdict_of a' c')) x' (judge a' (noted a' c' (verdict_of a' c') used) r'))
+      → list_any excluded (cond (is_denied (verdict_of a c)) x (judge a (exercises_after a c (verdict_of a c) used) r)).used ≡ false
+      → OutcomeMatches Related (cond (is_denied (verdict_of a c)) x (judge a (exercises_after a c (verdict_of a c) used) r))
+      (cond (is_denied (verdict_of a' c')) x' (judge a' (exercises_after a' c' (verdict_of a' c') used) r'))
   simulates_check c c' used r r' x x' check stops rest =
-      let y : CheckOutcome = judge a (noted a c (verdict_of a c) used) r in
-      let y' : CheckOutcome = judge a' (noted a' c' (verdict_of a' c') used) r' in
+      let y : CheckOutcome = judge a (exercises_after a c (verdict_of a c) used) r in
+      let y' : CheckOutcome = judge a' (exercises_after a' c' (verdict_of a' c') used) r' in
       cond_satisfies (λ j. list_any excluded j.used ≡ false → OutcomeMatches Related j (cond (is_denied (verdict_of a' c')) x' y')) (is_denied (verdict_of a c)) x y
       (λ t h. subst (λ b. OutcomeMatches Related x (cond b x' y')) (sym (check.denied t)) (stops h))
       (λ f h.
@@ -309,7 +309,7 @@ module _ (l : Label) (s : State) (who : Pid) (p : Process) where
 
 -- a property of exercises that each exercise keeps holds after one more check
 noted_preserves : (P : List Rec → Type 0) (a : Subject) → ((c : Check) (used : List Rec) → P used → P (used ++ exercise_with a c (cap_of c.name)))
-    → (c : Check) (v : Verdict) (used : List Rec) → P used → P (noted a c v used)
+    → (c : Check) (v : Verdict) (used : List Rec) → P used → P (exercises_after a c v used)
 noted_preserves P a keeps c Passed used h = h
 noted_preserves P a keeps c Exercised used h = keeps c used h
 noted_preserves P a keeps c Denied used h = h
@@ -320,10 +320,10 @@ pub used_preserves : (P : List Rec → Type 0) (a : Subject) → ((c : Check) (u
 unfolding judge
 used_preserves P a keeps used (Need c r) h =
     cond_satisfies (λ j. P j.used) (is_denied (verdict_of a c)) _ _ (λ _. h)
-    (λ _. used_preserves P a keeps (noted a c (verdict_of a c) used) r (noted_preserves P a keeps c (verdict_of a c) used h))
+    (λ _. used_preserves P a keeps (exercises_after a c (verdict_of a c) used) r (noted_preserves P a keeps c (verdict_of a c) used h))
 used_preserves P a keeps used (Soft c r w) h =
     cond_satisfies (λ j. P j.used) (is_denied (verdict_of a c)) _ _ (λ _. used_preserves P a keeps used w h)
-    (λ _. used_preserves P a keeps (noted a c (verdict_of a c) used) r (noted_preserves P a keeps c (verdict_of a c) used h))
+    (λ _. used_preserves P a keeps (exercises_after a c (verdict_of a c) used) r (noted_preserves P a keeps c (verdict_of a c) used h))
 used_preserves P a keeps used (Refuse e b r) h = cond_satisfies (λ j. P j.used) b _ _ (λ _. h) (λ _. used_preserves P a keeps used r h)
 used_preserves P a keeps used (Fail e) h = h
 used_preserves P a keeps used (Commit cs answer own) h = h
@@ -336,10 +336,10 @@ pub end_satisfies : (P : End → Type 0) (Q : List Change → Option Rec → Typ
 unfolding judge
 end_satisfies P Q stopped refused done a used (Need c r) h =
     cond_satisfies (λ j. P j.end) (is_denied (verdict_of a c)) _ _ (λ _. stopped c.name c.place)
-    (λ _. end_satisfies P Q stopped refused done a (noted a c (verdict_of a c) used) r h)
+    (λ _. end_satisfies P Q stopped refused done a (exercises_after a c (verdict_of a c) used) r h)
 end_satisfies P Q stopped refused done a used (Soft c r w) h =
     cond_satisfies (λ j. P j.end) (is_denied (verdict_of a c)) _ _ (λ _. end_satisfies P Q stopped refused done a used w h.1)
-    (λ _. end_satisfies P Q stopped refused done a (noted a c (verdict_of a c) used) r h.0)
+    (λ _. end_satisfies P Q stopped refused done a (exercises_after a c (verdict_of a c) used) r h.0)
 end_satisfies P Q stopped refused done a used (Refuse e b r) h = cond_satisfies (λ j. P j.end) b _ _ (λ _. refused e h.0) (λ _. end_satisfies P Q stopped refused done a used r h.1)
 end_satisfies P Q stopped refused done a used (Fail e) h = refused e h
 end_satisfies P Q stopped refused done a used (Commit cs answer own) h = done cs answer own h

@@ -30,7 +30,7 @@ use Rattle.kern_model.proofs.KeyLaws.{oid_cmp_total, oid_cmp_exact, pid_cmp_tota
 use Rattle.kern_model.specs.Kinds.{kind_of, bytes_of, is_stream}
 use Rattle.kern_model.specs.State.{State, Process, Description, SetObject, SetEntry, DrawObject, changed, changed_by, drawn, next_object, next_process, root}
 use Rattle.kern_model.specs.Valid.{IsDrawn, AreFew, leads, IsRoot, IsValidObject, IsValidEntry, IsValidProcess, IsValid}
-use Rattle.kern_model.specs.World.{objects_at, procs_at, same_names, parent_names, given, IsPlaced, ArePlaced, IsWorldObject, IsWorldProc, IsWorld}
+use Rattle.kern_model.specs.World.{objects_at, procs_at, same_names, parent_names, object_with_path, IsPlaced, ArePlaced, IsWorldObject, IsWorldProc, IsWorld}
 use Rattle.kern_model.proofs.MapLemmas.{same_key, get_or-absent, get-insert_same, get-insert_kept, other_key, each-insert, never_some, some_same, count_entries-one}
 use Rattle.iso_laws.specs.Laws.{ValidBoot}
 use Rattle.iso_laws.proofs.PathLemmas.{leads_still, leads_on, HasLastName, has_last_name, names_itself, given-append, not_before, given_after}
@@ -101,7 +101,7 @@ record Stands (names_of : Oid → List Name) (objects : FinMap oid_cmp Object) (
 -- what an entry leads to was given, with the names of its directory and its own
 record IsEntered (objects : FinMap oid_cmp Object) (before : List WorldObject) (names_of : Oid → List Name) (spot : Spot) (id : Oid) : Type 0 where
   names : names_of id ≡ names_of spot.0 ++ spot.1 ∷ []
-  known : given before (names_of id) ≡ None → ⊥
+  known : object_with_path before (names_of id) ≡ None → ⊥
   name : is_name spot.1 ≡ true
   dir : Object
   dir_is : map.get objects spot.0 ≡ Some dir
@@ -118,8 +118,8 @@ record IsBuilt (top : Label) (before : List WorldObject) (s : State) : Type 0 wh
   -- the names with which an object was given
   names_of : Oid → List Name
   root_names : names_of root ≡ []
-  root_given : given before [] ≡ None → ⊥
-  stands : (names : List Name) (o : WorldObject) → given before names ≡ Some o → Stands names_of s.objects names o
+  root_given : object_with_path before [] ≡ None → ⊥
+  stands : (names : List Name) (o : WorldObject) → object_with_path before names ≡ Some o → Stands names_of s.objects names o
   led : (id : Oid) (x : Object) → map.get s.objects id ≡ Some x → leads s root (names_of id) ≡ Some id
   entered : (spot : Spot) (id : Oid) → map.get s.entries spot ≡ Some id → IsEntered s.objects before names_of spot id
   below : (l : Label) → 1 ≤ drawn s.object_numbers l → dominates top l ≡ true
@@ -211,12 +211,12 @@ module _ (top : Label) (before : List WorldObject) (s : State) (built : IsBuilt 
   old_names id x e = ap (λ b. cond b o.path.names (built.names_of id)) (other_key oid_cmp_total oid_cmp_exact s.objects new (object_of o) absent id x e)
 
   -- what was given stays given
-  still_given : (names : List Name) → (given before names ≡ None → ⊥) → given (before ++ o ∷ []) names ≡ None → ⊥
+  still_given : (names : List Name) → (object_with_path before names ≡ None → ⊥) → object_with_path (before ++ o ∷ []) names ≡ None → ⊥
   still_given names known e = known (not_before before (o ∷ []) names e)
 
-  last_given : given (before ++ o ∷ []) o.path.names ≡ None → ⊥
+  last_given : object_with_path (before ++ o ∷ []) o.path.names ≡ None → ⊥
   last_given e = never_some _ o e
-      (given-append before (o ∷ []) o.path.names ∙ ap (λ w. option_or w (given (o ∷ []) o.path.names)) placed.new ∙ ap (λ b. cond b (Some o) None) (names_itself o.path.names))
+      (given-append before (o ∷ []) o.path.names ∙ ap (λ w. option_or w (object_with_path (o ∷ []) o.path.names)) placed.new ∙ ap (λ b. cond b (Some o) None) (names_itself o.path.names))
 
   -- its entry is in the directory that was given for it, at a name that was free
   module _ (dir : Stands built.names_of s.objects (parent_names o.path.names) placed.parent) (end : HasLastName o.path.names) where
@@ -233,7 +233,7 @@ module _ (top : Label) (before : List WorldObject) (s : State) (built : IsBuilt 
     free =
         elim (map.get s.entries spot) as (λ w. map.get s.entries spot ≡ w → w ≡ None) [
           | None ↦ λ _. refl
-          | Some q ↦ λ e. let is = built.entered spot q e in absurd (is.known (ap (given before) (is.names ∙ own_names) ∙ placed.new))
+          | Some q ↦ λ e. let is = built.entered spot q e in absurd (is.known (ap (object_with_path before) (is.names ∙ own_names) ∙ placed.new))
         ] refl
 
     leads_next : (names : List Name) (id : Oid) → leads s root names ≡ Some id → leads next_state root names ≡ Some id
@@ -258,7 +258,7 @@ module _ (top : Label) (before : List WorldObject) (s : State) (built : IsBuilt 
         let now : names_now id ≡ built.names_of id = old_names id is.object is.object_is in
         record {
           names = now ∙ is.names ∙ ap (λ ns. ns ++ at.1 ∷ []) (sym (old_names at.0 is.dir is.dir_is));
-          known = λ f. still_given (built.names_of id) is.known (ap (given (before ++ o ∷ [])) (sym now) ∙ f);
+          known = λ f. still_given (built.names_of id) is.known (ap (object_with_path (before ++ o ∷ [])) (sym now) ∙ f);
           name = is.name;
           dir = is.dir;
           dir_is = stays at.0 is.dir is.dir_is;
@@ -270,7 +270,7 @@ module _ (top : Label) (before : List WorldObject) (s : State) (built : IsBuilt 
         spot new
         (record {
           names = new_names ∙ sym own_names ∙ ap (λ ns. ns ++ end.name ∷ []) (sym (old_names dir.id (object_of placed.parent) dir.is));
-          known = λ f. last_given (ap (given (before ++ o ∷ [])) (sym new_names) ∙ f);
+          known = λ f. last_given (ap (object_with_path (before ++ o ∷ [])) (sym new_names) ∙ f);
           name = last_is_name o.path.names (parent_names o.path.names) end.name end.whole world.path.named;
           dir = object_of placed.parent;
           dir_is = stays dir.id (object_of placed.parent) dir.is;
@@ -308,7 +308,7 @@ module _ (top : Label) (before : List WorldObject) (s : State) (built : IsBuilt 
     }
 
   -- names that were not given before have a last one
-  new_last_name : (names : List Name) → given before names ≡ None → HasLastName names
+  new_last_name : (names : List Name) → object_with_path before names ≡ None → HasLastName names
   new_last_name [] e = absurd (built.root_given e)
   new_last_name (name ∷ names) e = has_last_name name names
 

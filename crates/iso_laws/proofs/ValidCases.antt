@@ -16,7 +16,7 @@ use Rattle.kern_model.specs.declared.numbers.Pid.{Pid}
 use Rattle.kern_model.specs.declared.objects.Kind.TheVariants as kind
 use Rattle.kern_model.specs.declared.objects.Object.{Object}
 use Rattle.kern_model.specs.declared.records.Rec.{Rec}
-use Rattle.kern_model.specs.Create.{made}
+use Rattle.kern_model.specs.Create.{creation}
 use Rattle.kern_model.specs.FileRows.{open_object}
 use Rattle.kern_model.specs.Keys.{same_oid}
 use Rattle.kern_model.specs.Kinds.{is_file, is_fifo, is_permission, is_stream}
@@ -85,7 +85,7 @@ valid_cases excluded s valid who p is =
           (record { mode = mode; only_files = λ other. absurd (true≢false (ap is_file (sym new_file) ∙ other)); dir_bytes = λ _. refl; file_bytes = λ _. omega arith; stream_bytes = λ _. omega arith }) (λ _ _. refl))
           who p is (record { object = id; reads = flags.r; writes = flags.w; appends = flags.a; offset = 0 }) new (get-insert_same oid_cmp_total s.objects id new) (λ dir. let no : kind.File ≡ kind.Dir = sym new_file ∙ dir in cc) may.room.descriptor may.room.number;
       open_made = λ dir name o place flags making file room.
-          valid_opened (changed_by s (made s p.label dir name o)) (valid_made s valid p dir name o making.fresh making.is_dir making.free making.not_removed mine.below making.left making.order (making.named tt))
+          valid_opened (changed_by s (creation s p.label dir name o)) (valid_made s valid p dir name o making.fresh making.is_dir making.free making.not_removed mine.below making.left making.order (making.named tt))
           who p is (record { object = next_object s p.label; reads = flags.r; writes = flags.w; appends = flags.a; offset = 0 }) o (get-insert_same oid_cmp_total s.objects (next_object s p.label) o) (λ dir. let no : kind.File ≡ kind.Dir = sym file ∙ dir in cc) room.descriptor room.number;
       duplicate = λ fd f open_is free. valid_shared s valid who p is f.did (record { value = f.description; is = open_is.is }) free;
       seek = λ fd f offset open_is. valid_moved s valid f.did f.description (record f.description { offset = offset }) open_is.is refl;

@@ -19,7 +19,7 @@ use Rattle.kern_model.specs.declared.checks.Verdict.TheVariants.{Passed, Exercis
 use Rattle.kern_model.specs.declared.numbers.Pid.{Pid}
 use Rattle.kern_model.specs.declared.records.Rec.{Rec}
 use Rattle.kern_model.specs.Maps.{select}
-use Rattle.kern_model.specs.Row.{Row, Need, Soft, Refuse, Fail, Commit, Subject, End, Stopped, Refused, Done, CheckOutcome, judge, check_outcome, verdict_of, is_denied, noted, exercise_with, may}
+use Rattle.kern_model.specs.Row.{Row, Need, Soft, Refuse, Fail, Commit, Subject, End, Stopped, Refused, Done, CheckOutcome, judge, check_outcome, verdict_of, is_denied, exercises_after, exercise_with, may}
 use Rattle.kern_model.specs.Rules.{cap_of}
 use Rattle.kern_model.specs.State.{State, Process, Change, SetProcess, DropProcess, changed, changed_by}
 use Rattle.kern_model.specs.Step.{subject}
@@ -98,8 +98,8 @@ module _ (c : Cap) (picks : Pid → Bool) where
 
   judge_without : (a : Subject) (used : List Rec) (r : Row) → judge a used (row_without r) ≡ outcome_without (judge a used r)
   unfolding judge
-  judge_without a used (Need k r) = cond_related EqualsWithout (is_denied (verdict_of a k)) _ _ _ _ (λ _. refl) (λ _. judge_without a (noted a k (verdict_of a k) used) r)
-  judge_without a used (Soft k r w) = cond_related EqualsWithout (is_denied (verdict_of a k)) _ _ _ _ (λ _. judge_without a used w) (λ _. judge_without a (noted a k (verdict_of a k) used) r)
+  judge_without a used (Need k r) = cond_related EqualsWithout (is_denied (verdict_of a k)) _ _ _ _ (λ _. refl) (λ _. judge_without a (exercises_after a k (verdict_of a k) used) r)
+  judge_without a used (Soft k r w) = cond_related EqualsWithout (is_denied (verdict_of a k)) _ _ _ _ (λ _. judge_without a used w) (λ _. judge_without a (exercises_after a k (verdict_of a k) used) r)
   judge_without a used (Refuse e holds r) = cond_related EqualsWithout holds _ _ _ _ (λ _. refl) (λ _. judge_without a used r)
   judge_without a used (Fail e) = refl
   judge_without a used (Commit changes answer own) = refl
@@ -158,7 +158,7 @@ module _ (c : Cap) (who : Pid) (p : Process) where
   same_exercise k None = refl
   same_exercise k (Some w) = refl
 
-  same_noted : (k : Check) (v : Verdict) (used : List Rec) → noted subject_without k v used ≡ noted subject_with k v used
+  same_noted : (k : Check) (v : Verdict) (used : List Rec) → exercises_after subject_without k v used ≡ exercises_after subject_with k v used
   same_noted k Passed used = refl
   same_noted k Exercised used = ap (λ es. used ++ es) (same_exercise k (cap_of k.name))
   same_noted k Denied used = refl
@@ -171,13 +171,13 @@ module _ (c : Cap) (who : Pid) (p : Process) where
       name = refl;
       place = refl;
       denied = λ t. ap is_denied e ∙ t;
-      goes = λ passes. (ap is_denied e ∙ passes.granted, λ used. ap (λ v. noted subject_without k v used) e ∙ same_noted k _ used);
+      goes = λ passes. (ap is_denied e ∙ passes.granted, λ used. ap (λ v. exercises_after subject_without k v used) e ∙ same_noted k _ used);
     }
     | inr x ↦ record {
       name = refl;
       place = refl;
       denied = λ t. absurd (true≢false (sym t ∙ ap is_denied x.0));
-      goes = λ passes. absurd (true≢false (sym x.1 ∙ (ap (λ v. list_any (is_exercise_of c) (noted subject_with k v [])) (sym x.0) ∙ passes.inside)));
+      goes = λ passes. absurd (true≢false (sym x.1 ∙ (ap (λ v. list_any (is_exercise_of c) (exercises_after subject_with k v [])) (sym x.0) ∙ passes.inside)));
     }
   ]
 

@@ -32,10 +32,10 @@ use Rattle.kern_model.specs.declared.objects.Kind.{Kind}
 use Rattle.kern_model.specs.declared.objects.Kind.TheVariants as kind
 use Rattle.kern_model.specs.declared.objects.Object.{Object}
 use Rattle.kern_model.specs.declared.records.Rec.{Rec}
-use Rattle.kern_model.specs.Create.{attr_of, made}
-use Rattle.kern_model.specs.Descriptors.{Opened, Descriptor, opened, descriptors, closing, is_let_go, emptied, with_descriptor}
+use Rattle.kern_model.specs.Create.{attr_of, creation}
+use Rattle.kern_model.specs.Descriptors.{Opened, Descriptor, opened, descriptors, closing, is_let_go, truncation, with_descriptor}
 use Rattle.kern_model.specs.Entries.{names_in, holder, is_under, is_under_within, is_so_above}
-use Rattle.kern_model.specs.FileRows.{or_not_open, on_descriptor, opening, second_description, cleared}
+use Rattle.kern_model.specs.FileRows.{or_not_open, on_descriptor, opening, second_description, unprivileged}
 use Rattle.kern_model.specs.OpenRows.{opens, emptying, open_present, open_found, to_absent}
 use Rattle.kern_model.specs.Keys.{same_oid, same_pid, same_did, is_pid}
 use Rattle.kern_model.specs.Kinds.{is_dir, is_fifo, is_file, object_with, masked}
@@ -160,7 +160,7 @@ module _ (c : Cap) (s : State) (who : Pid) (p : Process) (picks : Pid → Bool) 
   unfolding closing
   same_closing goes = λ i. flat_map (λ e. cond (same_let_go goes e.0 i) (DropDescription e.0
       ∷ cond (is_fifo (object_at s e.1.object).kind
-      && not (any_entry (λ did d. same_oid d.object e.1.object && not (same_let_go goes did i)) s.descriptions)) (emptied s e.1.object ∷ []) []) [])
+      && not (any_entry (λ did d. same_oid d.object e.1.object && not (same_let_go goes did i)) s.descriptions)) (truncation s e.1.object ∷ []) []) [])
       (map.entries s.descriptions)
 
   same_has_child : has_child s' who ≡ has_child s who
@@ -211,17 +211,17 @@ module _ (c : Cap) (s : State) (who : Pid) (p : Process) (picks : Pid → Bool) 
   same_present : (flags : OpenFlags) (id : Oid) (place : Place) → SameRowWithout (open_present s who p flags id place) (open_present s' who p' flags id place)
   same_present flags id place =
       let o : Object = object_at s id in
-      let emptied = λ (a : Option Attr). same_opens id flags (emptying id o a) in
+      let truncation = λ (a : Option Attr). same_opens id flags (emptying id o a) in
       refuse_same (same_need_if _ _ _ _ (same_need_if _ _ _ _ (refuse_same (refuse_same
       (same_need_if _ _ _ _ (same_need_if _ _ _ _ (same_need_if _ _ _ _
-      (same_cond (flags.t && is_file o.kind) _ _ _ _ (soft_same (emptied (Some o.attr)) (emptied (Some (cleared o.attr)))) (emptied None)))))))))
+      (same_cond (flags.t && is_file o.kind) _ _ _ _ (soft_same (truncation (Some o.attr)) (truncation (Some (unprivileged o.attr)))) (truncation None)))))))))
 
   same_found : (path : PathValue) (flags : OpenFlags) (mode : ℕ) (found : Found)
       → SameRowWithout (open_found s who p path flags mode found) (open_found s' who p' path flags mode found)
   same_found path flags mode (Start id) = same_present flags id _
   same_found path flags mode (Entry dir name None) =
       ap (to_absent s p flags dir (dir_place (λ n. First n) path))
-      (refuse_same (same_opens (next_object s p.label) flags (made s p.label dir name (object_with p.label (attr_of p (masked mode p.umask)) (body.File [])))))
+      (refuse_same (same_opens (next_object s p.label) flags (creation s p.label dir name (object_with p.label (attr_of p (masked mode p.umask)) (body.File [])))))
   same_found path flags mode (Entry dir name (Some id)) = same_present flags id _
 
   -- ---- calls on entries

@@ -2,12 +2,9 @@
 ghost use Rattle.std.specs.Prelude.{◌≡◌, true, IfOk, IsOk, IsSome};
 ghost use Rattle.std.specs.FinMap as map;
 ghost use Rattle.kern_model.specs.Arguments.{has_names};
-ghost use Rattle.kern_model.specs.State.{process_at};
 ghost use Rattle.kern_model.specs.Step.{IsPlayed};
-ghost use Rattle.kern_model.specs.Table.{row};
 ghost use Rattle.kern_model.specs.Valid.{IsValid};
-ghost use Rattle.sys_lookup.specs.Memory.{takes_no_memory};
-ghost use Rattle.sys_lookup.specs.PlaysRow.{LeavesNothing, PlaysRow};
+ghost use Rattle.sys_lookup.specs.CallRows.{LeavesNothingOf, PlaysRowOf};
 ghost use Rattle.kern_core.specs.Kernel.{TakesNoMemory};
 
 mod auditing;
@@ -44,9 +41,9 @@ fn play_body(
 ) -> Result<Effect, Stop>
     requires valid { ∥ IsValid shared.old ∥₁ }
     requires living { IsSome (map.get shared.old.procs who.now) }
-    ensures played { PlaysRow shared.old checks.old (row shared.old who.now (process_at shared.old who.now) call.now) result shared.new checks.new }
+    ensures played { PlaysRowOf shared.old who.now call.now checks.old result shared.new checks.new }
     ensures names { has_names call.now ≡ true }
-    ensures nothing { takes_no_memory call.now ≡ true → LeavesNothing result }
+    ensures nothing { LeavesNothingOf call.now result }
 {
     match call {
         Call::OpenPath(_, _, _)

@@ -1,5 +1,5 @@
--- How a state and its processes are stored.
-use Rattle.std.specs.Prelude.{ℕ, refl}
+-- How a state and its parts are stored.
+use Rattle.std.specs.Prelude.{ℕ, List, refl}
 use Rattle.std.specs.Ordering.{nat_cmp}
 use Rattle.std.specs.FinMap as map
 use Rattle.std.specs.FinMap.{FinMap}
@@ -19,32 +19,36 @@ use Rattle.kern_model.specs.State.{State, Process, Description}
 abbrev Tables : Type 0
 Tables = (FinMap oid_cmp Object × FinMap spot_cmp Oid) × ((FinMap pid_cmp Process × FinMap did_cmp Description) × ((FinMap label_cmp ℕ × (FinMap label_cmp ℕ × FinMap label_cmp ℕ)) × (CapSet × Label)))
 
-oid : Coded Oid
-oid = Prim.hlevel (codes, label_code)
+pub oid_code : Coded Oid
+oid_code = Prim.hlevel (codes, label_code)
 
-object : Coded Object
-object = Prim.hlevel (codes, set.code {R = cap_cmp} cap_code, label_code)
+pub object_code : Coded Object
+object_code = Prim.hlevel (codes, set.code {R = cap_cmp} cap_code, label_code)
 
-spot : Coded Spot
-spot = Prim.hlevel (codes, label_code)
+pub spot_code : Coded Spot
+spot_code = Prim.hlevel (codes, label_code)
 
 pub pid_code : Coded Pid
 pid_code = Prim.hlevel (codes, label_code)
 
-did : Coded Did
-did = Prim.hlevel (codes, label_code)
+-- lists of processes
+pub pids_code : Coded (List Pid)
+pids_code = Prim.hlevel (codes, label_code)
+
+pub did_code : Coded Did
+did_code = Prim.hlevel (codes, label_code)
 
 pub process_code : Coded Process
-process_code = Prim.hlevel (codes, map.code {K = ℕ} {X = Did} {R = nat_cmp} coded_ℕ did, set.code {R = cap_cmp} cap_code, label_code)
+process_code = Prim.hlevel (codes, map.code {K = ℕ} {X = Did} {R = nat_cmp} coded_ℕ did_code, set.code {R = cap_cmp} cap_code, label_code)
 
-description : Coded Description
-description = Prim.hlevel (codes, label_code)
+pub description_code : Coded Description
+description_code = Prim.hlevel (codes, label_code)
 
 -- a state is stored as its tables
 pub state_code : Coded State
 state_code =
     code_by Tables
-    (coded× (coded× (map.code oid object) (map.code spot oid)) (coded× (coded× (map.code pid_code process_code) (map.code did description)) (coded× (coded× (map.code label_code coded_ℕ) (coded× (map.code label_code coded_ℕ) (map.code label_code coded_ℕ))) (coded× (set.code cap_code) label_code))))
+    (coded× (coded× (map.code oid_code object_code) (map.code spot_code oid_code)) (coded× (coded× (map.code pid_code process_code) (map.code did_code description_code)) (coded× (coded× (map.code label_code coded_ℕ) (coded× (map.code label_code coded_ℕ) (map.code label_code coded_ℕ))) (coded× (set.code cap_code) label_code))))
     (λ s. ((s.objects, s.entries), ((s.procs, s.descriptions), ((s.object_numbers, (s.process_numbers, s.description_numbers)), (s.bound, s.top)))))
     (λ t. record { objects = t.0.0; entries = t.0.1; procs = t.1.0.0; descriptions = t.1.0.1; object_numbers = t.1.1.0.0; process_numbers = t.1.1.0.1.0; description_numbers = t.1.1.0.1.1; bound = t.1.1.1.0; top = t.1.1.1.1 })
     (λ _. refl)

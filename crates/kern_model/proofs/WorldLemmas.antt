@@ -20,7 +20,7 @@ use Rattle.kern_model.specs.declared.world.World.{World}
 use Rattle.kern_model.specs.declared.world.WorldObject.{WorldObject}
 use Rattle.kern_model.specs.declared.world.WorldProc.{WorldProc}
 use Rattle.kern_model.specs.Rules.{same_label}
-use Rattle.kern_model.specs.World.{objects_at, procs_at, HasRoom, same_names, parent_names, given, IsPlaced, ArePlaced, IsWorldObject, IsWorldProc, IsWorld}
+use Rattle.kern_model.specs.World.{objects_at, procs_at, HasRoom, same_names, parent_names, object_with_path, IsPlaced, ArePlaced, IsWorldObject, IsWorldProc, IsWorld}
 use Rattle.kern_model.proofs.MapLemmas.{some_same}
 
 -- ---- names
@@ -44,7 +44,7 @@ none_there f None e = refl
 none_there f (Some x) e = absurd (cc)
 
 -- a test of the parent decides whether an object may come after others
-pub Decides-placed : (before : List WorldObject) (o parent : WorldObject) (b : Bool) → given before o.path.names ≡ None → given before (parent_names o.path.names) ≡ Some parent
+pub Decides-placed : (before : List WorldObject) (o parent : WorldObject) (b : Bool) → object_with_path before o.path.names ≡ None → object_with_path before (parent_names o.path.names) ≡ Some parent
     → Decides b ((parent.body ≡ body.Dir) × (dominates o.label parent.label ≡ true)) → Decides b (IsPlaced before o)
 Decides-placed before o parent b new is test = (
   λ e. let h = test.0 e in record { new = new; parent = parent; parent_given = is; parent_dir = h.0; order = h.1 },

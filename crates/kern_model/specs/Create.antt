@@ -48,9 +48,9 @@ abbrev pub drawing : State → Label → Object → List Change
 drawing s label object = drawing_after (drawn s.object_numbers label) label object
 
 -- an object is made with the number after n of a label, and a name leads to it
-abbrev pub made_after : ℕ → Label → Oid → Name → Object → List Change
-made_after n label dir name object = drawing_after n label object ++ SetEntry (dir, name) (record { label = label; n = n + 1 }) ∷ []
+abbrev pub creation_after : ℕ → Label → Oid → Name → Object → List Change
+creation_after n label dir name object = drawing_after n label object ++ SetEntry (dir, name) (record { label = label; n = n + 1 }) ∷ []
 
 -- an object is made with the next number of a label, and a name leads to it
-abbrev pub made : State → Label → Oid → Name → Object → List Change
-made s label dir name object = made_after (drawn s.object_numbers label) label dir name object
+abbrev pub creation : State → Label → Oid → Name → Object → List Change
+creation s label dir name object = creation_after (drawn s.object_numbers label) label dir name object

@@ -65,12 +65,12 @@ abbrev pub is_drained : State → (Descriptor → Bool) → Oid → Bool
 is_drained s goes id = is_fifo (object_at s id).kind && not (any_entry (λ did d. same_oid d.object id && not (is_let_go s goes did)) s.descriptions)
 
 -- an object without its bytes
-abbrev pub emptied : State → Oid → Change
-emptied s id = SetObject id (record (object_at s id) { bytes = [] })
+abbrev pub truncation : State → Oid → Change
+truncation s id = SetObject id (record (object_at s id) { bytes = [] })
 
 -- a description that is let go goes, and with the last one of a FIFO its bytes
 abbrev pub let_go : State → (Descriptor → Bool) → Did × Description → List Change
-let_go s goes e = cond (is_let_go s goes e.0) (DropDescription e.0 ∷ cond (is_drained s goes e.1.object) (emptied s e.1.object ∷ []) []) []
+let_go s goes e = cond (is_let_go s goes e.0) (DropDescription e.0 ∷ cond (is_drained s goes e.1.object) (truncation s e.1.object ∷ []) []) []
 
 -- what changes where descriptors close
 unfoldable pub closing : State → (Descriptor → Bool) → List Change

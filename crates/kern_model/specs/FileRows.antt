@@ -59,28 +59,28 @@ abbrev pub may_describe : State → Process → ℕ → Row → Row
 may_describe s p n rest = has_free p n (Refuse errno.ENFILE (not (has_descriptions s p n)) rest)
 
 -- a description with another offset
-abbrev pub moved : Opened → ℕ → Change
-moved f offset = SetDescription f.did (record f.description { offset = offset })
+abbrev pub offset_change : Opened → ℕ → Change
+offset_change f offset = SetDescription f.did (record f.description { offset = offset })
 
 -- an object with other bytes
 abbrev pub with_bytes : State → Oid → List ℕ → Change
 with_bytes s id bytes = SetObject id (record (object_at s id) { bytes = bytes })
 
 -- attributes without set-id bits and capabilities
-abbrev pub cleared : Attr → Attr
-cleared attr = record attr { mode = permissions attr.mode; caps = no_flags }
+abbrev pub unprivileged : Attr → Attr
+unprivileged attr = record attr { mode = permissions attr.mode; caps = no_flags }
 
 -- soft fsetid of a file whose content changes: its attributes stay, or are cleared where that is denied
 abbrev pub keeps_attr : Oid → Place → Object → (Attr → Row) → Row
-keeps_attr id place o rest = Soft (of_object check.Fsetid (is_plain o.attr) None id o place) (rest o.attr) (rest (cleared o.attr))
+keeps_attr id place o rest = Soft (of_object check.Fsetid (is_plain o.attr) None id o place) (rest o.attr) (rest (unprivileged o.attr))
 
 -- a file that was read gets other bytes and attributes
-abbrev pub rewritten : Oid → Object → List ℕ → Attr → Change
-rewritten id o bytes attr = SetObject id (record o { bytes = bytes; attr = attr })
+abbrev pub content_change : Oid → Object → List ℕ → Attr → Change
+content_change id o bytes attr = SetObject id (record o { bytes = bytes; attr = attr })
 
 -- a description with the number after n of a label is made, with the lowest free descriptor of a process
-abbrev pub described_after : ℕ → Label → Pid → Process → Description → List Change
-described_after n label who p description =
+abbrev pub description_creation_after : ℕ → Label → Pid → Process → Description → List Change
+description_creation_after n label who p description =
     let did : Did = record { label = label; n = n + 1 } in
     DrawDescription label (n + 1) ∷ SetDescription did description ∷ SetProcess who (with_descriptor p did) ∷ []
 
@@ -90,7 +90,7 @@ opened_with flags id = record { object = id; reads = flags.r; writes = flags.w; 
 
 -- a description of the caller is made, with its lowest free descriptor
 abbrev pub opening : State → Pid → Process → Oid → OpenFlags → List Change
-opening s who p id flags = described_after (drawn s.description_numbers p.label) p.label who p (opened_with flags id)
+opening s who p id flags = description_creation_after (drawn s.description_numbers p.label) p.label who p (opened_with flags id)
 
 -- ---- close, dup and fstat
 
@@ -140,8 +140,8 @@ abbrev pub second_after : ℕ → Process → Did
 second_after b p = record { label = p.label; n = b + 2 }
 
 -- a pipe is made with the number after a, and descriptions with the two numbers after b: one for reading, and one for writing
-abbrev pub piped_after : ℕ → ℕ → Pid → Process → List Change
-piped_after a b who p =
+abbrev pub pipe_creation_after : ℕ → ℕ → Pid → Process → List Change
+pipe_creation_after a b who p =
     let id : Oid = record { label = p.label; n = a + 1 } in
     let reading : Did = record { label = p.label; n = b + 1 } in
     drawing_after a p.label (new_pipe p)
@@ -155,7 +155,7 @@ abbrev pub ends_after : ℕ → Process → Answer
 ends_after b p = answer.Two (lowest_free p.fds) (lowest_free (with_descriptor p (record { label = p.label; n = b + 1 })).fds)
 
 abbrev pub make_pipe_after : ℕ → ℕ → Pid → Process → Row
-make_pipe_after a b who p = Commit (piped_after a b who p) (ends_after b p) None
+make_pipe_after a b who p = Commit (pipe_creation_after a b who p) (ends_after b p) None
 
 -- an object gets the next number, as a pipe of the caller
 abbrev pub drawing_pipe : State → Process → List Change
@@ -166,8 +166,8 @@ abbrev pub second_description : State → Process → Did
 second_description s p = second_after (drawn s.description_numbers p.label) p
 
 -- a pipe is made with the next numbers, and descriptions for reading and for writing
-abbrev pub piped : State → Pid → Process → List Change
-piped s who p = piped_after (drawn s.object_numbers p.label) (drawn s.description_numbers p.label) who p
+abbrev pub pipe_creation : State → Pid → Process → List Change
+pipe_creation s who p = pipe_creation_after (drawn s.object_numbers p.label) (drawn s.description_numbers p.label) who p
 
 abbrev pub both_ends : State → Process → Answer
 both_ends s p = ends_after (drawn s.description_numbers p.label) p
@@ -194,7 +194,7 @@ taken_from o f n = take n (drop f.description.offset o.bytes)
 
 -- bytes come out of a file, whose offset moves after them
 abbrev pub from_file : Opened → List ℕ → Row
-from_file f bytes = Commit (moved f (f.description.offset + length bytes) ∷ []) (answer.Bytes bytes) None
+from_file f bytes = Commit (offset_change f (f.description.offset + length bytes) ∷ []) (answer.Bytes bytes) None
 
 -- bytes come out of a pipe or FIFO from the start, which loses them
 abbrev pub from_stream : ℕ → Oid → Object → Row
@@ -252,7 +252,7 @@ written_over old at bytes = take at old ++ (bytes ++ drop (at + length bytes) ol
 
 -- a file gets a piece at a place, and these attributes
 abbrev pub put_in : List ℕ → Opened → Object → ℕ → Attr → Change
-put_in bytes f o at attr = rewritten f.description.object o (written_over o.bytes at bytes) attr
+put_in bytes f o at attr = content_change f.description.object o (written_over o.bytes at bytes) attr
 
 -- what changes of a file where a piece goes in, with soft fsetid, unless no byte is written
 abbrev pub rewrites : List ℕ → Opened → Object → ℕ → (List Change → Row) → Row
@@ -261,7 +261,7 @@ rewrites bytes f o at rest =
 
 -- the offset moves after a piece, and the number of its bytes is answered
 abbrev pub move_after : List ℕ → Opened → ℕ → List Change → Row
-move_after bytes f at changes = Commit (changes ++ moved f (at + length bytes) ∷ []) (answer.Number (length bytes)) None
+move_after bytes f at changes = Commit (changes ++ offset_change f (at + length bytes) ∷ []) (answer.Number (length bytes)) None
 
 -- a piece goes into a file at a place
 abbrev pub writes_at : List ℕ → Opened → Object → ℕ → Row
@@ -302,7 +302,7 @@ base_of s f whence.End = length (open_object s f).bytes
 abbrev pub moves : Opened → ℤ → ℕ → Row
 moves f to size =
     Refuse errno.EINVAL (int_lt to (pos 0) || int_lt (pos size) to)
-    (Commit (moved f (unsigned_abs to) ∷ []) (answer.Number (unsigned_abs to)) None)
+    (Commit (offset_change f (unsigned_abs to) ∷ []) (answer.Number (unsigned_abs to)) None)
 
 abbrev pub seek_opened : State → Whence → ℤ → Opened → Row
 seek_opened s from offset f = moves f (pos (base_of s f from) +ℤ offset) (length (open_object s f).bytes)

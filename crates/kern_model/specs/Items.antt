@@ -3,7 +3,7 @@ use Rattle.std.specs.Prelude.{Bool, true, List, [], ◌∷◌, Option, Some, Non
 use Rattle.kern_model.specs.declared.checks.Check.{Check}
 use Rattle.kern_model.specs.declared.calls.Errno.{Errno}
 use Rattle.kern_model.specs.declared.records.Rec.{Rec}
-use Rattle.kern_model.specs.Row.{Row, Need, Soft, Refuse, Fail, Commit, Subject, End, Stopped, Refused, Done, CheckOutcome, verdict_of, is_denied, noted}
+use Rattle.kern_model.specs.Row.{Row, Need, Soft, Refuse, Fail, Commit, Subject, End, Stopped, Refused, Done, CheckOutcome, verdict_of, is_denied, exercises_after}
 
 -- a check, a soft check or a refusal
 pub data Item : Type 0 where
@@ -19,8 +19,8 @@ pub record Stop : Type 0 where
 -- items are gone through up to the first that stops: a check that is denied, or a refusal whose condition holds
 abbrev pub first_stop : Subject → List Rec → List Item → Stop
 first_stop a used [] = record { used = used; stop = None }
-first_stop a used (Must c ∷ is) = cond (is_denied (verdict_of a c)) (record { used = used; stop = Some (Stopped c.name c.place) }) (first_stop a (noted a c (verdict_of a c) used) is)
-first_stop a used (May c ∷ is) = first_stop a (noted a c (verdict_of a c) used) is
+first_stop a used (Must c ∷ is) = cond (is_denied (verdict_of a c)) (record { used = used; stop = Some (Stopped c.name c.place) }) (first_stop a (exercises_after a c (verdict_of a c) used) is)
+first_stop a used (May c ∷ is) = first_stop a (exercises_after a c (verdict_of a c) used) is
 first_stop a used (Refusal e h ∷ is) = cond h (record { used = used; stop = Some (Refused e) }) (first_stop a used is)
 
 -- the items of a row in order; a soft check picks those that follow
@@ -37,5 +37,5 @@ stop_of (Stopped name place) = Some (Stopped name place)
 stop_of (Refused e) = Some (Refused e)
 stop_of (Done cs answer own) = None
 
-abbrev pub seen : CheckOutcome → Stop
-seen j = record { used = j.used; stop = stop_of j.end }
+abbrev pub visible_stop : CheckOutcome → Stop
+visible_stop j = record { used = j.used; stop = stop_of j.end }

@@ -1,5 +1,5 @@
 -- Finite maps: with a default, the part of one, and tests on entries.
-use Rattle.std.specs.Prelude.{ℕ, List, [], ◌∷◌, Bool, Option, Some, None, cond, count_by}
+use Rattle.std.specs.Prelude.{◌≡◌, ℕ, List, [], ◌∷◌, Bool, Option, Some, None, cond, count_by}
 use Rattle.std.specs.declared.cmp.Ordering.{Ordering}
 use Rattle.std.specs.FinMap as map
 use Rattle.std.specs.FinMap.{FinMap}
@@ -8,6 +8,10 @@ use Rattle.std.specs.List.{list_any}
 -- what a table holds at a key, or the default
 unfoldable pub get_or : {K X : Type 0} {R : K → K → Ordering} → FinMap R X → K → X → X
 get_or m k d = elim (map.get m k) [ None ↦ d | Some x ↦ x ]
+
+-- this holds of what a map has at a key, if it has something there
+abbrev pub IfPresent : {K X : Type 0} {R : K → K → Ordering} → FinMap R X → K → (X → Type 0) → Type 0
+IfPresent {X = X} m k P = (x : X) → map.get m k ≡ Some x → P x
 
 -- the entry, if there is one
 abbrev pub with_entry : {K X : Type 0} → K → Option X → List (K × X) → List (K × X)

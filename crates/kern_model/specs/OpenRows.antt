@@ -18,8 +18,8 @@ use Rattle.kern_model.specs.Descriptors.{lowest_free}
 use Rattle.kern_model.specs.Rules.{mac_read_of, mac_write_of, dac_read_of, dac_write_of}
 use Rattle.kern_model.specs.Row.{Row, Refuse, Commit, need_if}
 use Rattle.kern_model.specs.Walk.{Found, Start, Entry, walk, last_place, dir_place}
-use Rattle.kern_model.specs.Create.{make_in, attr_of, made, to_number}
-use Rattle.kern_model.specs.FileRows.{may_describe, opening, keeps_attr, rewritten}
+use Rattle.kern_model.specs.Create.{make_in, attr_of, creation, to_number}
+use Rattle.kern_model.specs.FileRows.{may_describe, opening, keeps_attr, content_change}
 
 -- ---- whether an object that is there may be opened
 
@@ -59,7 +59,7 @@ opens s who p id flags before = Commit (before ++ opening s who p id flags) (ans
 -- the change of an object that is emptied with these attributes, if it is
 abbrev pub emptying : Oid → Object → Option Attr → List Change
 emptying id o None = []
-emptying id o (Some attr) = rewritten id o [] attr ∷ []
+emptying id o (Some attr) = content_change id o [] attr ∷ []
 
 -- an object that is there is opened
 abbrev pub opens_present : State → Pid → Process → OpenFlags → Oid → Object → Option Attr → Row
@@ -87,7 +87,7 @@ new_file p mode = object_with p.label (attr_of p (masked mode p.umask)) (body.Fi
 
 -- a file is made under a number, and opened
 abbrev pub opens_made : State → Pid → Process → OpenFlags → ℕ → Oid → Name → Oid → Row
-opens_made s who p flags mode dir name id = opens s who p id flags (made s p.label dir name (new_file p mode))
+opens_made s who p flags mode dir name id = opens s who p id flags (creation s p.label dir name (new_file p mode))
 
 abbrev pub opens_new : State → Pid → Process → OpenFlags → ℕ → Oid → Name → Row
 opens_new s who p flags mode dir name = to_number s p.label (opens_made s who p flags mode dir name)

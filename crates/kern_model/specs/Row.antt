@@ -68,10 +68,10 @@ exercise_with a c (Some cap) =
     ∷ []
 
 -- the exercises so far, and one more where the check was exercised
-abbrev pub noted : Subject → Check → Verdict → List Rec → List Rec
-noted a c Passed used = used
-noted a c Exercised used = used ++ exercise_with a c (cap_of c.name)
-noted a c Denied used = used
+abbrev pub exercises_after : Subject → Check → Verdict → List Rec → List Rec
+exercises_after a c Passed used = used
+exercises_after a c Exercised used = used ++ exercise_with a c (cap_of c.name)
+exercises_after a c Denied used = used
 
 -- how a call ends
 pub data End : Type 0 where
@@ -89,8 +89,8 @@ check_outcome used end = record { used = used; end = end }
 
 -- the first item that stops, or else what is done, with the exercises before it added to those so far
 unfoldable pub judge : Subject → List Rec → Row → CheckOutcome
-judge a used (Need c rest) = cond (is_denied (verdict_of a c)) (check_outcome used (Stopped c.name c.place)) (judge a (noted a c (verdict_of a c) used) rest)
-judge a used (Soft c granted weaker) = cond (is_denied (verdict_of a c)) (judge a used weaker) (judge a (noted a c (verdict_of a c) used) granted)
+judge a used (Need c rest) = cond (is_denied (verdict_of a c)) (check_outcome used (Stopped c.name c.place)) (judge a (exercises_after a c (verdict_of a c) used) rest)
+judge a used (Soft c granted weaker) = cond (is_denied (verdict_of a c)) (judge a used weaker) (judge a (exercises_after a c (verdict_of a c) used) granted)
 judge a used (Refuse e holds rest) = cond holds (check_outcome used (Refused e)) (judge a used rest)
 judge a used (Fail e) = check_outcome used (Refused e)
 judge a used (Commit changes answer own) = check_outcome used (Done changes answer own)

@@ -18,7 +18,7 @@ use Rattle.kern_model.specs.declared.objects.Object.{Object}
 use Rattle.kern_model.specs.Entries.{has_entries, is_empty, is_removed, is_under, link_count, names_in}
 use Rattle.kern_model.specs.Keys.{Spot, same_oid}
 use Rattle.kern_model.specs.Kinds.{is_dir, object_with, masked}
-use Rattle.kern_model.specs.Create.{enter_in, write_directory, attr_of, made, to_number}
+use Rattle.kern_model.specs.Create.{enter_in, write_directory, attr_of, creation, to_number}
 use Rattle.kern_model.specs.Rules.{mac_write, dac_read, dac_write, created_order, held_order, link_dir, unlink_dir}
 use Rattle.kern_model.specs.Row.{Row, Need, Refuse, Commit}
 use Rattle.kern_model.specs.State.{State, Process, SetEntry, DropEntry, SetProcess, object_at}
@@ -43,7 +43,7 @@ new_spot s p place path order rest = walk s p place path (λ found. new_spot_fou
 
 -- an object is made at a label, and the spot leads to it
 abbrev pub put_object : State → Label → Object → Spot → Row
-put_object s label object (dir, name) = Commit (made s label dir name object) answer.Nothing None
+put_object s label object (dir, name) = Commit (creation s label dir name object) answer.Nothing None
 
 -- the same, where a number is left
 abbrev pub make_at : State → Label → Object → Spot → Row

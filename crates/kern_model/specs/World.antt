@@ -40,14 +40,14 @@ parent_names (name ∷ []) = []
 parent_names (name ∷ next ∷ names) = name ∷ parent_names (next ∷ names)
 
 -- the first of these objects whose path has these names
-abbrev pub given : List WorldObject → List Name → Option WorldObject
-given os names = find (λ (o : WorldObject). same_names o.path.names names) os
+abbrev pub object_with_path : List WorldObject → List Name → Option WorldObject
+object_with_path os names = find (λ (o : WorldObject). same_names o.path.names names) os
 
 -- an object may come after others: its path was not given, its directory was, and its label dominates the directory's
 pub record IsPlaced (before : List WorldObject) (o : WorldObject) : Type 0 where
-  pub new : given before o.path.names ≡ None
+  pub new : object_with_path before o.path.names ≡ None
   pub parent : WorldObject
-  pub parent_given : given before (parent_names o.path.names) ≡ Some parent
+  pub parent_given : object_with_path before (parent_names o.path.names) ≡ Some parent
   pub parent_dir : parent.body ≡ body.Dir
   pub order : dominates o.label parent.label ≡ true
 

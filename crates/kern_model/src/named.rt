@@ -1,5 +1,6 @@
 // Calls, checks and error numbers by their words.
-ghost use Rattle.std.specs.Prelude.{◌≡◌};
+ghost use Rattle.std.specs.Prelude.{◌≡◌, ◌==◌};
+ghost use Rattle.std.specs.Cmp.Lexicographic.{pointwise};
 ghost use Rattle.kern_model.specs.Names.{word_of, check_word, errno_word};
 ghost use Rattle.kern_model.specs.Named.{call_named, check_named, errno_named, named, IsFoundBy};
 
@@ -107,7 +108,7 @@ const ERRNOS: [Errno; 20] = [
 
 // The calls whose words begin as this one does, and all calls where none does.
 #[tactic(auto, unfolding(crate::specs::Named::named))]
-fn alike(word: &[u8]) -> &'static [CallName]
+fn candidates(word: &[u8]) -> &'static [CallName]
     ensures { named word_of result.now word.now ≡ call_named word.now }
 {
     match word {
@@ -131,12 +132,30 @@ fn alike(word: &[u8]) -> &'static [CallName]
     }
 }
 
+// Whether two words are one. Words are short, so that this takes fewer steps than `==` of slices does.
+fn are_equal(word: &[u8], other: &[u8]) -> bool
+    ensures { result ≡ pointwise ◌==◌ word.now other.now }
+{
+    let (mut left, mut right) = (word, other);
+    while let ([first, more @ ..], [second, rest @ ..]) = (left, right) {
+        if first != second {
+            return false;
+        }
+        left = more;
+        right = rest;
+    }
+    left.is_empty() && right.is_empty()
+}
+
 // The first of some calls with a word.
 #[tactic(auto, unfolding(crate::specs::Named::named))]
 fn first_named(calls: &[CallName], word: &[u8]) -> Option<CallName>
     ensures { result ≡ named word_of calls.now word.now }
 {
-    calls.iter().copied().find(|call| word == call.word())
+    calls
+        .iter()
+        .copied()
+        .find(|call| are_equal(word, call.word()))
 }
 
 impl CallName {
@@ -145,7 +164,7 @@ impl CallName {
         ensures found { result ≡ call_named word.now }
         ensures exact { IsFoundBy word_of word.now result }
     {
-        first_named(alike(word), word)
+        first_named(candidates(word), word)
     }
 }
 

@@ -3,7 +3,7 @@ ghost use Rattle.std.specs.Prelude.{◌≡◌};
 ghost use Rattle.kern_model.specs.Keys.{same_oid};
 
 use fs_path::List;
-use lab_lattice::{Label, bottom};
+use lab_lattice::{Label, Lattice, bottom};
 
 /// The number of a process: the label that it was drawn at, and the count of its draw from 1 on.
 #[derive(Clone, Copy, Debug, PartialEq, Eq, PartialOrd, Ord)]
@@ -51,11 +51,10 @@ impl Default for Oid {
 
 impl Oid {
     /// Whether two numbers are one.
-    #[tactic(auto, unfolding(crate::specs::Keys::oid_cmp))]
     pub fn is_same(&self, other: &Oid) -> bool
         ensures { result ≡ same_oid self.now other.now }
     {
-        self.cmp(other).is_eq()
+        self.n == other.n && self.label.equal(&other.label)
     }
 }
 

@@ -9,7 +9,7 @@ ghost use Rattle.kern_model.specs.declared.objects.Body.TheVariants as body;
 ghost use Rattle.kern_model.specs.declared.world.WorldObject.{WorldObject};
 ghost use Rattle.kern_model.specs.declared.world.WorldProc.{WorldProc};
 ghost use Rattle.kern_model.specs.Kinds.{is_file, kind_of, bytes_of};
-ghost use Rattle.kern_model.specs.World.{objects_at, procs_at, same_names, parent_names, given, IsPlaced, ArePlaced, IsWorldObject, AreOne, IsWorldProc, HasRoom, IsWorld};
+ghost use Rattle.kern_model.specs.World.{objects_at, procs_at, same_names, parent_names, object_with_path, IsPlaced, ArePlaced, IsWorldObject, AreOne, IsWorldProc, HasRoom, IsWorld};
 
 use crate::limits::{MAX_FILE_BYTES, MAX_GROUPS, MAX_OBJECTS, MAX_PROCS};
 use crate::{Body, Ids, Name, World, WorldObject, WorldProc};
@@ -25,8 +25,8 @@ fn same_names(a: &[Name], b: &[Name]) -> bool
 }
 
 // The first of these objects whose path has these names.
-fn given<'a>(objects: &'a [WorldObject], names: &[Name]) -> Option<&'a WorldObject>
-    ensures { option_copied result ≡ given objects.now names.now }
+fn object_with_path<'a>(objects: &'a [WorldObject], names: &[Name]) -> Option<&'a WorldObject>
+    ensures { option_copied result ≡ object_with_path objects.now names.now }
 {
     objects
         .iter()
@@ -56,10 +56,10 @@ fn is_placed(before: &[WorldObject], object: &WorldObject) -> bool
     ensures { Decides result (IsPlaced before.now object.now) }
 {
     let names = object.path.components();
-    if given(before, names).is_some() {
+    if object_with_path(before, names).is_some() {
         return false;
     }
-    match given(before, parent_names(names)) {
+    match object_with_path(before, parent_names(names)) {
         Some(parent) => may_hold(parent, object),
         None => false,
     }

@@ -35,7 +35,7 @@ use Rattle.script_text.specs.declared.fault.LineError.TheVariants as error
 use Rattle.script_text.specs.Argument as argument
 use Rattle.script_text.specs.Calls.{one_parsed, parse_call, three_parsed, two, two_parsed, three}
 use Rattle.script_text.specs.Line.{bytes_in, item_by, parse_item, parse_line, parse_words}
-use Rattle.script_text.specs.Reading.{Reading, both, made}
+use Rattle.script_text.specs.Reading.{Reading, both, map_reading}
 use Rattle.sec_utils.specs.Tools.{tool_named}
 use Rattle.world_text.specs.Written.{bare, quoted}
 
@@ -116,10 +116,10 @@ text_of tag word arguments = line_text (map spelling (bare tag ∷ bare word ∷
 -- these words are read as the call that they name
 by_words : (tag word : List ℕ) (arguments : List LineWord) (n : CallName) (who : Pid) (c : Call) → call_named word ≡ Some n → argument.tag policy tag ≡ Ok who → parse_call policy n (bytes_in arguments) ≡ Ok c
     → parse_item policy (bare tag ∷ bare word ∷ arguments) ≡ Ok (line.One who c)
-unfolding parse_item made both
+unfolding parse_item map_reading both
 by_words tag word arguments n who c named tagged called =
     ap (λ (o : Option CallName). item_by policy tag (bytes_in arguments) o (tool_named word)) named
-    ∙ (λ i. made (λ (item : Pid × Call). line.One item.0 item.1) (both (tagged i) (called i)))
+    ∙ (λ i. map_reading (λ (item : Pid × Call). line.One item.0 item.1) (both (tagged i) (called i)))
 
 -- such a text is not blank
 no_blank : (level word : List ℕ) (arguments : List LineWord) → is_blank (text_of (codes "1@l" ++ level) word arguments) ≡ false
@@ -147,16 +147,16 @@ call_read level n arguments c text is small spelled rest called short =
 -- ---- arguments of calls
 
 -- a call of arguments that are read is read
-one_read : {A : Type 0} (make : A → Call) (a : Reading A) (x : A) → a ≡ Ok x → made make a ≡ Ok (make x)
-unfolding made
-one_read make a x e = ap (made make) e
+one_read : {A : Type 0} (make : A → Call) (a : Reading A) (x : A) → a ≡ Ok x → map_reading make a ≡ Ok (make x)
+unfolding map_reading
+one_read make a x e = ap (map_reading make) e
 
 two_read : {A B : Type 0} (make : A → B → Call) (a : Reading A) (b : Reading B) (x : A) (y : B) → a ≡ Ok x → b ≡ Ok y → two make a b ≡ Ok (make x y)
-unfolding made both
+unfolding map_reading both
 two_read make a b x y e f = λ i. two make (e i) (f i)
 
 three_read : {A B C : Type 0} (make : A → B → C → Call) (a : Reading A) (b : Reading B) (c : Reading C) (x : A) (y : B) (z : C) → a ≡ Ok x → b ≡ Ok y → c ≡ Ok z → three make a b c ≡ Ok (make x y z)
-unfolding made both
+unfolding map_reading both
 three_read make a b c x y z e f g = λ i. three make (e i) (f i) (g i)
 
 -- the arguments that are the same in each line

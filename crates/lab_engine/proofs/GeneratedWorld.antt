@@ -24,7 +24,7 @@ use Rattle.kern_model.specs.declared.world.WorldProc.{WorldProc}
 use Rattle.kern_model.specs.Kinds.{is_dir, kind_of}
 use Rattle.kern_model.specs.Named.{named}
 use Rattle.kern_model.specs.Rules.{same_label}
-use Rattle.kern_model.specs.World.{given}
+use Rattle.kern_model.specs.World.{object_with_path}
 use Rattle.lab_lattice.specs.Label.{Label, bottom, dominates}
 use Rattle.lab_lattice.proofs.Labels.{dominates_bottom, dominates_itself}
 use Rattle.lab_text.specs.Names.{same_bytes}
@@ -158,7 +158,7 @@ unfolding object_fault
 root_fits = cond-false (not (dominates bottom bottom)) (Some RootLabel) None (ap not (dominates_itself bottom))
 
 -- an object in a directory that was given has no fault
-object_fits : (done : List WorldObject) (o parent : WorldObject) → given done o.path.names ≡ None → is_root o.path.names ≡ false → directory_of done o.path.names ≡ Some parent → is_dir (kind_of parent.body) ≡ true
+object_fits : (done : List WorldObject) (o parent : WorldObject) → object_with_path done o.path.names ≡ None → is_root o.path.names ≡ false → directory_of done o.path.names ≡ Some parent → is_dir (kind_of parent.body) ≡ true
     → dominates o.label parent.label ≡ true → length done < MAX_OBJECTS → object_fault (record { objects = done; procs = [] }) o ≡ None
 unfolding object_fault
 object_fits done o parent new below in_dir dir above few =
@@ -170,7 +170,7 @@ abbrev root : WorldObject
 root = dir_at [] bottom
 
 -- a directory in the root has no fault, where its path was not given
-dir_fits : (more : List WorldObject) (n : Name) (label : Label) → given (root ∷ more) (n ∷ []) ≡ None → length (root ∷ more) < MAX_OBJECTS → object_fault (record { objects = root ∷ more; procs = [] }) (dir_at (n ∷ []) label) ≡ None
+dir_fits : (more : List WorldObject) (n : Name) (label : Label) → object_with_path (root ∷ more) (n ∷ []) ≡ None → length (root ∷ more) < MAX_OBJECTS → object_fault (record { objects = root ∷ more; procs = [] }) (dir_at (n ∷ []) label) ≡ None
 dir_fits more n label new few = object_fits (root ∷ more) (dir_at (n ∷ []) label) root new refl refl refl (dominates_bottom label) few
 
 -- the words of a directory

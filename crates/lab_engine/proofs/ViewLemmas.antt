@@ -27,7 +27,7 @@ use Rattle.lab_engine.specs.Input.{Accepted, Script}
 use Rattle.lab_engine.specs.Session.{session_of}
 use Rattle.lab_engine.specs.Texts.{caps_in, end_text, ends_text, label_in, last_text, reply_text}
 use Rattle.lab_engine.specs.Report.{crossed_line}
-use Rattle.lab_engine.specs.Viewing.{low_calls, seen, session_alone, some_crosses, unless_whole, view_text}
+use Rattle.lab_engine.specs.Viewing.{low_calls, visible_calls, session_alone, some_crosses, unless_whole, view_text}
 
 -- the reply line of what was answered
 abbrev shown : PolicyNames → Answered → List ℕ
@@ -129,11 +129,11 @@ view_alone l a m is args none =
     let end = isolated_end l a.world m.items is args none in
     let none' = isolated_inside l a.world m.items is args none in
     let same : answers l calls ≡ answers l calls' = isolated_whole l a.world m.items is args none ∙ sym (answers_to_low l m.items (part l (boot a.world))) in
-    let replies : flat_map (reply_text a.policy) (seen l calls) ≡ flat_map (reply_text a.policy) (seen l calls') =
+    let replies : flat_map (reply_text a.policy) (visible_calls l calls) ≡ flat_map (reply_text a.policy) (visible_calls l calls') =
     ap (λ (ps : List CallRecord). flat_map (reply_text a.policy) (low_calls l ps)) none
     ∙ replies_by_answers l a.policy calls ∙ ap (flat_map (shown a.policy)) same ∙ sym (replies_by_answers l a.policy calls')
     ∙ sym (ap (λ (ps : List CallRecord). flat_map (reply_text a.policy) (low_calls l ps)) none') in
-    let count : length (seen l calls) ≡ length (seen l calls') =
+    let count : length (visible_calls l calls) ≡ length (visible_calls l calls') =
     ap (λ (ps : List CallRecord). length (low_calls l ps)) none
     ∙ count_by_answers l calls ∙ ap (λ (xs : List Answered). length xs) same ∙ sym (count_by_answers l calls')
     ∙ sym (ap (λ (ps : List CallRecord). length (low_calls l ps)) none') in

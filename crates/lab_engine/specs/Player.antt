@@ -67,7 +67,7 @@ module _ {K T : Type 0} {k : Ghosts K} {t : Ghosts T} where
   abbrev pub SameBorrows : (r r' : Reporter K T k t) → Type 0
   SameBorrows r r' = SameEnds r.texts.policy.now r'.texts.policy.now r.out r'.out r.trail r'.trail
 
-  -- a function wrote an order to the output and the trail of a reporter, or up to a fault a part of it
+  -- a function wrote an order to the output and the trail of a reporter, or at a fault a prefix of it
   abbrev pub WritesTo : {X : Type 0} → Result X Fault → List Sent → (r r' : Reporter K T k t) → Type 0
   WritesTo result order r r' = WritesBoth result order (k.view r.out.now) (k.view r'.out.now) (t.view r.trail.now) (t.view r'.trail.now)
 

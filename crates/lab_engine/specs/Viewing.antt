@@ -21,8 +21,8 @@ abbrev pub some_crosses : Label → List CallRecord → Bool
 some_crosses l calls = list_any (λ (p : CallRecord). crossing l p.recs) calls
 
 -- the calls that l sees: those before the first one that crosses it
-abbrev pub seen : Label → List CallRecord → List CallRecord
-seen l calls = low_calls l (up_to l calls)
+abbrev pub visible_calls : Label → List CallRecord → List CallRecord
+visible_calls l calls = low_calls l (up_to l calls)
 
 -- the last line of an input that is not whole
 abbrev pub unless_whole : InputEnd → List ℕ
@@ -32,8 +32,8 @@ unless_whole ending = last_text 0 ending
 -- what a view from l writes: the replies to the calls that it sees, and `crossed` where one crosses, or else the end lines that it sees and the number of these replies
 unfoldable pub view_text : Label → Session → List ℕ
 view_text l s =
-    flat_map (reply_text s.policy) (seen l s.calls)
-    ++ cond (some_crosses l s.calls) (crossed_line ++ unless_whole s.ending) (ends_text (Some l) s.policy s.last_state ++ last_text (length (seen l s.calls)) s.ending)
+    flat_map (reply_text s.policy) (visible_calls l s.calls)
+    ++ cond (some_crosses l s.calls) (crossed_line ++ unless_whole s.ending) (ends_text (Some l) s.policy s.last_state ++ last_text (length (visible_calls l s.calls)) s.ending)
 
 -- what is played of the part below l of a world and of a script, with nothing else there
 abbrev pub session_alone : Label → Accepted → Script → Session

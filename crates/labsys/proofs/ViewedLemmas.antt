@@ -29,7 +29,7 @@ use Rattle.lab_engine.specs.Reading.{Takes, left_of, script_at}
 use Rattle.lab_engine.specs.Report.{crossed_line}
 use Rattle.lab_engine.specs.Session.{session_of}
 use Rattle.lab_engine.specs.Texts.{ends_text, last_text, reply_text}
-use Rattle.lab_engine.specs.Viewing.{low_calls, seen, some_crosses, unless_whole, view_text}
+use Rattle.lab_engine.specs.Viewing.{low_calls, visible_calls, some_crosses, unless_whole, view_text}
 use Rattle.lab_engine.proofs.CountLemmas.{any_trail_counts}
 use Rattle.lab_engine.proofs.RunReports.{below_after, below_reported, below_text, up_to_all}
 use Rattle.lab_engine.proofs.Sending.{goes_on, in_order, out_of_memory, passes_on, stops_longer, to_out-append, trail_of-append, trail_of-to_out}
@@ -72,10 +72,10 @@ module _ (bs : List ℕ) (n n' : ℕ) (o o' t : SinkView) where
 
 module _ (policy : PolicyNames) (l : Label) (calls : List CallRecord) (s : State) (e : InputEnd) where
   abbrev replies : List ℕ
-  replies = flat_map (reply_text policy) (seen l calls)
+  replies = flat_map (reply_text policy) (visible_calls l calls)
 
   abbrev whole_view : Bool → List ℕ
-  whole_view b = replies ++ cond b (crossed_line ++ unless_whole e) (ends_text (Some l) policy s ++ last_text (length (seen l calls)) e)
+  whole_view b = replies ++ cond b (crossed_line ++ unless_whole e) (ends_text (Some l) policy s ++ last_text (length (visible_calls l calls)) e)
 
   -- what follows, by whether a call crosses the label
   abbrev view_end : Bool → List ℕ

@@ -16,10 +16,6 @@ use Rattle.proc_creds.specs.Credentials.{Credentials}
 use Rattle.proc_table.specs.declared.procs.ReapError.{ReapError}
 use Rattle.proc_table.specs.declared.procs.ReapError.TheVariants.{NoChild, NoneEnded}
 
--- this holds of the process with a number, if there is one
-abbrev pub ForProcess : FinMap pid_cmp Process → Pid → (Process → Type 0) → Type 0
-ForProcess procs who P = (p : Process) → map.get procs who ≡ Some p → P p
-
 -- the next number of a label is given exactly where one is left
 abbrev pub IsNextIn : FinMap label_cmp ℕ → Label → Option Pid → Type 0
 IsNextIn numbers l next = MatchOption next (MAX_PROCS ≤ drawn numbers l) (λ who. (who ≡ record { label = l; n = drawn numbers l + 1 }) × (drawn numbers l < MAX_PROCS))

@@ -18,13 +18,12 @@ pub struct ChildList {
 
 impl Model for ChildList {
     ghost use Rattle.std.specs.Prelude.{List};
-    ghost use Rattle.std.specs.Coded.{codes};
-    ghost use Rattle.lab_lattice.specs.Label.{label_code};
     ghost use Rattle.kern_model.specs.declared.numbers.Pid.{Pid};
+    ghost use Rattle.kern_model.proofs.StateCode.{pids_code};
 
     ghost Value = { List Pid };
 
-    ghost coded = { Prim.hlevel (codes, label_code) };
+    ghost coded = { pids_code };
 
     ghost view = { λ l. l.children.items };
 }
@@ -84,15 +83,14 @@ pub struct ChildLists {
 impl Model for ChildLists {
     ghost use Rattle.std.specs.Prelude.{List};
     ghost use Rattle.std.specs.FinMap as map;
-    ghost use Rattle.std.specs.Coded.{codes};
-    ghost use Rattle.lab_lattice.specs.Label.{label_code};
     ghost use Rattle.kern_model.specs.declared.numbers.Pid.{Pid};
     ghost use Rattle.kern_model.specs.Keys.{pid_cmp};
     ghost use Rattle.kern_model.specs.ByNumber.{by_pid};
+    ghost use Rattle.kern_model.proofs.StateCode.{pid_code, pids_code};
 
     ghost Value = { map.FinMap pid_cmp (List Pid) };
 
-    ghost coded = { map.code (Prim.hlevel (codes, label_code)) (Prim.hlevel (codes, label_code)) };
+    ghost coded = { map.code pid_code pids_code };
 
     ghost view = { λ l. by_pid l.by_parent };
 }

@@ -3,7 +3,8 @@ ghost use Rattle.std.specs.Prelude.{◌≡◌, ◌+◌, ◌<◌, ◌^◌, length
 ghost use Rattle.std.specs.FinMap as map;
 ghost use Rattle.kern_model.specs.ProcessRows.{child_of};
 ghost use Rattle.kern_model.specs.Valid.{IsThere};
-ghost use Rattle.proc_table.specs.Procs.{ForProcess, TakesEnded, altered, with_ended, without_parent};
+ghost use Rattle.kern_model.specs.Maps.{IfPresent};
+ghost use Rattle.proc_table.specs.Procs.{TakesEnded, altered, with_ended, without_parent};
 
 use crate::ended::Place;
 use crate::process::Proc;
@@ -21,21 +22,15 @@ pub struct Living {
 }
 
 impl Model for Living {
-    ghost use Rattle.std.specs.Prelude.{ℕ};
-    ghost use Rattle.std.specs.Ordering.{nat_cmp};
     ghost use Rattle.std.specs.FinMap as map;
-    ghost use Rattle.std.specs.FinSet as set;
-    ghost use Rattle.std.specs.Coded.{codes, coded_ℕ};
-    ghost use Rattle.cap_bits.specs.Cap.{cap_cmp, cap_code};
-    ghost use Rattle.lab_lattice.specs.Label.{label_code};
-    ghost use Rattle.kern_model.specs.declared.numbers.Did.{Did};
     ghost use Rattle.kern_model.specs.Keys.{pid_cmp};
     ghost use Rattle.kern_model.specs.State.{Process};
     ghost use Rattle.kern_model.specs.ByNumber.{by_pid};
+    ghost use Rattle.kern_model.proofs.StateCode.{pid_code, process_code};
 
     ghost Value = { map.FinMap pid_cmp Process };
 
-    ghost coded = { map.code (Prim.hlevel (codes, label_code)) (Prim.hlevel (codes, map.code {K = ℕ} {X = Did} {R = nat_cmp} coded_ℕ (Prim.hlevel (codes, label_code)), set.code {R = cap_cmp} cap_code, label_code)) };
+    ghost coded = { map.code pid_code process_code };
 
     ghost view = { λ a. by_pid a.by_number };
 }
@@ -84,7 +79,7 @@ impl Living {
     /// The present label of a living process.
     pub fn label(&self, who: &Pid) -> Label
         requires { IsThere self.now who.now }
-        ensures { ForProcess self.now who.now (λ p. result ≡ p.label) }
+        ensures { IfPresent self.now who.now (λ p. result ≡ p.label) }
     {
         let Some(process) = self.get(who) else {
             unreachable!();
@@ -95,7 +90,7 @@ impl Living {
     /// A child of a living process, with the numbers of both.
     pub fn child(&self, alloc: Global, parent: &Pid, who: &Pid) -> Result<Proc, NoMemory>
         requires { IsThere self.now parent.now }
-        ensures { ForProcess self.now parent.now (λ p. IfOk result (λ child. child ≡ child_of parent.now p)) }
+        ensures { IfPresent self.now parent.now (λ p. IfOk result (λ child. child ≡ child_of parent.now p)) }
     {
         let Some(process) = self.get(parent) else {
             unreachable!();
@@ -106,7 +101,7 @@ impl Living {
     /// Takes the child that ended first off the list of a living process, if there is one. It takes no memory.
     pub fn take_ended(&mut self, who: &Pid) -> Option<(Pid, Ending)>
         requires { IsThere self.old who.now }
-        ensures { ForProcess self.old who.now (λ p. TakesEnded self.old self.new who.now p result) }
+        ensures { IfPresent self.old who.now (λ p. TakesEnded self.old self.new who.now p result) }
     {
         let Some(process) = self.get_mut(who) else {
             unreachable!();
@@ -116,7 +111,7 @@ impl Living {
 
     /// Appends a child that ended to the list of a process, if there is one with the number. It takes no memory.
     pub fn add_ended(&mut self, who: &Pid, place: Place, child: &Pid, ending: Ending)
-        requires { ForProcess self.old who.now (λ p. length p.ended + 1 < 2 ^ 63) }
+        requires { IfPresent self.old who.now (λ p. length p.ended + 1 < 2 ^ 63) }
         ensures { self.new ≡ altered self.old who.now (with_ended child.now ending) }
     {
         if let Some(process) = self.get_mut(who) {

@@ -5,7 +5,8 @@ ghost use Rattle.kern_model.specs.ProcessRows.{child_of};
 ghost use Rattle.kern_model.specs.State.{drawn};
 ghost use Rattle.kern_model.specs.Valid.{IsThere};
 ghost use Rattle.kern_model.specs.declared.limits.TheConstants.{MAX_PROCS};
-ghost use Rattle.proc_table.specs.Procs.{ForProcess, creds_of, ended_by, has_living_child, next_in, no_procs, reaped, starting, with_new, with_process};
+ghost use Rattle.kern_model.specs.Maps.{IfPresent};
+ghost use Rattle.proc_table.specs.Procs.{creds_of, ended_by, has_living_child, next_in, no_procs, reaped, starting, with_new, with_process};
 
 use crate::process::Proc;
 use crate::table::Table;
@@ -50,20 +51,14 @@ pub struct Procs {
 }
 
 impl Model for Procs {
-    ghost use Rattle.std.specs.Prelude.{ℕ};
-    ghost use Rattle.std.specs.Ordering.{nat_cmp};
-    ghost use Rattle.std.specs.FinMap as map;
-    ghost use Rattle.std.specs.FinSet as set;
-    ghost use Rattle.std.specs.Coded.{codes, coded_ℕ};
-    ghost use Rattle.cap_bits.specs.Cap.{cap_cmp, cap_code};
     ghost use Rattle.lab_lattice.specs.Label.{label_code};
-    ghost use Rattle.kern_model.specs.declared.numbers.Did.{Did};
     ghost use Rattle.proc_table.specs.Children.{IsKept};
     ghost use Rattle.proc_table.specs.Procs.{AreDrawn, ProcTable, table_code};
+    ghost use Rattle.kern_model.proofs.StateCode.{pid_code, process_code};
 
     ghost Value = { ProcTable };
 
-    ghost coded = { table_code (Prim.hlevel (codes, label_code)) (Prim.hlevel (codes, map.code {K = ℕ} {X = Did} {R = nat_cmp} coded_ℕ (Prim.hlevel (codes, label_code)), set.code {R = cap_cmp} cap_code, label_code)) label_code };
+    ghost coded = { table_code pid_code process_code label_code };
 
     ghost view = { λ p. record { procs = p.table.living; numbers = p.table.numbers } };
 
@@ -104,9 +99,9 @@ impl Procs {
     /// like the process, but has it as its parent and no child of its own.
     pub fn fork(&mut self, parent: &Pid) -> Result<Pid, ProcError>
         requires { IsThere self.old.procs parent.now }
-        ensures who { ForProcess self.old.procs parent.now (λ p. IfOk result (λ who. who ≡ next_in self.old p.label)) }
-        ensures made { ForProcess self.old.procs parent.now (λ p. OnOk result (self.new ≡ with_new self.old (child_of parent.now p))) }
-        ensures full { ForProcess self.old.procs parent.now (λ p. (result ≡ Err ProcError.Full) ↔ (MAX_PROCS ≤ drawn self.old.numbers p.label)) }
+        ensures who { IfPresent self.old.procs parent.now (λ p. IfOk result (λ who. who ≡ next_in self.old p.label)) }
+        ensures made { IfPresent self.old.procs parent.now (λ p. OnOk result (self.new ≡ with_new self.old (child_of parent.now p))) }
+        ensures full { IfPresent self.old.procs parent.now (λ p. (result ≡ Err ProcError.Full) ↔ (MAX_PROCS ≤ drawn self.old.numbers p.label)) }
         ensures err { OnErr result (self.new ≡ self.old) }
     {
         let label = self.table.living.label(parent);
@@ -119,8 +114,8 @@ impl Procs {
     /// Takes the child of a living process that ended first off its list, and returns it with its ending. It takes no memory.
     pub fn reap(&mut self, who: &Pid) -> Result<(Pid, Ending), ReapError>
         requires { IsThere self.old.procs who.now }
-        ensures answer { ForProcess self.old.procs who.now (λ p. result ≡ reaped p.ended (has_living_child self.old.procs who.now)) }
-        ensures taken { ForProcess self.old.procs who.now (λ p. OnOk result (self.new ≡ with_process self.old who.now (record p { ended = drop 1 p.ended }))) }
+        ensures answer { IfPresent self.old.procs who.now (λ p. result ≡ reaped p.ended (has_living_child self.old.procs who.now)) }
+        ensures taken { IfPresent self.old.procs who.now (λ p. OnOk result (self.new ≡ with_process self.old who.now (record p { ended = drop 1 p.ended }))) }
         ensures err { OnErr result (self.new ≡ self.old) }
     {
         if let Some(first) = self.table.living.take_ended(who) {
@@ -136,7 +131,7 @@ impl Procs {
     /// ended. It takes no memory.
     pub fn finish(&mut self, who: &Pid, ending: Ending)
         requires { IsThere self.old.procs who.now }
-        ensures { ForProcess self.old.procs who.now (λ p. self.new ≡ record self.old { procs = ended_by self.old.procs who.now p ending }) }
+        ensures { IfPresent self.old.procs who.now (λ p. self.new ≡ record self.old { procs = ended_by self.old.procs who.now p ending }) }
     {
         self.table.finish(who, ending);
     }
@@ -159,7 +154,7 @@ impl Procs {
     /// Sets the current directory of a living process. It takes no memory.
     pub fn set_cwd(&mut self, who: &Pid, cwd: Oid)
         requires { IsThere self.old.procs who.now }
-        ensures { ForProcess self.old.procs who.now (λ p. self.new ≡ with_process self.old who.now (record p { cwd = cwd })) }
+        ensures { IfPresent self.old.procs who.now (λ p. self.new ≡ with_process self.old who.now (record p { cwd = cwd })) }
     {
         let Some(process) = self.table.living.get_mut(who) else {
             unreachable!();
@@ -170,7 +165,7 @@ impl Procs {
     /// Sets the audit switch of a living process. It takes no memory.
     pub fn set_audited(&mut self, who: &Pid, on: bool)
         requires { IsThere self.old.procs who.now }
-        ensures { ForProcess self.old.procs who.now (λ p. self.new ≡ with_process self.old who.now (record p { audited = on })) }
+        ensures { IfPresent self.old.procs who.now (λ p. self.new ≡ with_process self.old who.now (record p { audited = on })) }
     {
         let Some(process) = self.table.living.get_mut(who) else {
             unreachable!();

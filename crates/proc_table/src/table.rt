@@ -3,7 +3,8 @@ ghost use Rattle.std.specs.Prelude.{◌≡◌, [], None, OnErr, OnOk};
 ghost use Rattle.std.specs.FinMap as map;
 ghost use Rattle.kern_model.specs.Valid.{IsThere};
 ghost use Rattle.proc_table.specs.Children.{IsKept};
-ghost use Rattle.proc_table.specs.Procs.{ForProcess, IsNextIn, all_parted, ended_by, without_ended};
+ghost use Rattle.kern_model.specs.Maps.{IfPresent};
+ghost use Rattle.proc_table.specs.Procs.{IsNextIn, all_parted, ended_by, without_ended};
 
 use crate::children::Children;
 use crate::living::Living;
@@ -91,7 +92,7 @@ impl Table {
     pub fn finish(&mut self, who: &Pid, ending: Ending)
         requires there { IsThere self.old.living who.now }
         requires kept { IsKept self.old.living self.old.children self.old.made }
-        ensures living { ForProcess self.old.living who.now (λ p. self.new.living ≡ ended_by self.old.living who.now p ending) }
+        ensures living { IfPresent self.old.living who.now (λ p. self.new.living ≡ ended_by self.old.living who.now p ending) }
         ensures numbers { self.new.numbers ≡ self.old.numbers }
         ensures kept { IsKept self.new.living self.new.children self.new.made }
     {
@@ -103,7 +104,7 @@ impl Table {
     fn end(&mut self, who: &Pid, ending: Ending)
         requires there { IsThere self.old.living who.now }
         requires kept { IsKept self.old.living self.old.children self.old.made }
-        ensures living { ForProcess self.old.living who.now (λ p. self.new.living ≡ without_ended self.old.living who.now p ending) }
+        ensures living { IfPresent self.old.living who.now (λ p. self.new.living ≡ without_ended self.old.living who.now p ending) }
         ensures numbers { self.new.numbers ≡ self.old.numbers }
         ensures kept { IsKept self.new.living self.new.children self.new.made }
     {

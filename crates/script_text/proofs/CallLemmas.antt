@@ -2,7 +2,7 @@
 use Rattle.std.proofs.Common.{◌≡◌, Ok, Err, refl, sym, ◌∙◌, ap, subst}
 use Rattle.std.specs.Prelude.{MatchResult, IsOkAnd}
 use Rattle.std.specs.declared.alloc.AllocError.{AllocError}
-use Rattle.script_text.specs.Reading.{Reading, Answers, IsCause, both, first_of, made}
+use Rattle.script_text.specs.Reading.{Reading, Answers, IsCause, both, first_of, map_reading}
 use Rattle.script_text.specs.declared.fault.LineError.{LineError}
 use Rattle.script_text.specs.declared.fault.LineError.TheVariants as error
 
@@ -59,11 +59,11 @@ both_answer a b (Err e) (Err f) h k =
     (λ m none. subst (λ (e : LineError). IsCause (both a b) (first_of e f)) (sym none) (memory_first (both a b) m f))
 
 -- what was read of two words makes this, or their first fault is the answer
-pub made_answer : {X C : Type 0} (parsed x : Reading X) (make : X → C) (r : Reading C) → Answers parsed x → MatchResult x (λ v. IsOkAnd r (λ c. c ≡ make v)) (λ e. r ≡ Err e) → Answers (made make parsed) r
-unfolding made
-made_answer parsed (Ok v) make (Ok c) h is = ap (made make) h ∙ sym (ap (λ c. Ok c) is)
+pub made_answer : {X C : Type 0} (parsed x : Reading X) (make : X → C) (r : Reading C) → Answers parsed x → MatchResult x (λ v. IsOkAnd r (λ c. c ≡ make v)) (λ e. r ≡ Err e) → Answers (map_reading make parsed) r
+unfolding map_reading
+made_answer parsed (Ok v) make (Ok c) h is = ap (map_reading make) h ∙ sym (ap (λ c. Ok c) is)
 made_answer parsed (Ok v) make (Err e) h is = absurd is
-made_answer parsed (Err e) make r h is = subst (Answers (made make parsed)) (sym is) (cause_after parsed (made make) e h refl)
+made_answer parsed (Err e) make r h is = subst (Answers (map_reading make parsed)) (sym is) (cause_after parsed (map_reading make) e h refl)
 
 -- an exact answer
 pub exact_answer : {X : Type 0} (parsed x : Reading X) → x ≡ parsed → Answers parsed x

@@ -42,7 +42,7 @@ use Rattle.sec_utils.specs.declared.util.Util.{Util}
 use Rattle.line_text.specs.Reading.{path_of}
 use Rattle.cap_bits.specs.declared.state.CapState.{CapState}
 use Rattle.script_text.specs.Line.{MayBePlayed, bytes_in, item_by, parse_item, parse_line, parse_words}
-use Rattle.script_text.specs.Reading.{Reading, both, made}
+use Rattle.script_text.specs.Reading.{Reading, both, map_reading}
 use Rattle.script_text.specs.declared.line.Line.{Line}
 use Rattle.script_text.specs.declared.line.Line.TheVariants as line
 use Rattle.script_text.specs.declared.fault.LineError.{LineError}
@@ -64,8 +64,8 @@ both_are (Err e) (Ok y) p h = absurd (cc)
 both_are (Err e) (Err f) p h = absurd (cc)
 
 -- what holds of all that is made of a value that was read holds of what was made
-pub from_made : {A B : Type 0} (P : B → Type 0) (make : A → B) (a : Reading A) (b : B) → made make a ≡ Ok b → ((x : A) → a ≡ Ok x → P (make x)) → P b
-unfolding made
+pub from_made : {A B : Type 0} (P : B → Type 0) (make : A → B) (a : Reading A) (b : B) → map_reading make a ≡ Ok b → ((x : A) → a ≡ Ok x → P (make x)) → P b
+unfolding map_reading
 from_made P make (Ok x) b h p = let e : make x ≡ b = cc in subst P e (p x refl)
 from_made P make (Err e) b h p = absurd (cc)
 
@@ -177,11 +177,11 @@ module _ (policy : PolicyNames) where
   abbrev MayBeMade : Call → Type 0
   MayBeMade c = (is_call (top_of policy) c ≡ true) × (has_names c ≡ true)
 
-  from_two : {A B : Type 0} (make : A → B → Call) (a : Reading A) (b : Reading B) (c : Call) → made (λ args. make args.0 args.1) (both a b) ≡ Ok c
+  from_two : {A B : Type 0} (make : A → B → Call) (a : Reading A) (b : Reading B) (c : Call) → map_reading (λ args. make args.0 args.1) (both a b) ≡ Ok c
       → ((x : A) (y : B) → a ≡ Ok x → b ≡ Ok y → MayBeMade (make x y)) → MayBeMade c
   from_two make a b c h p = from_made MayBeMade (λ args. make args.0 args.1) (both a b) c h (λ args e. let is = both_are a b args e in p args.0 args.1 is.0 is.1)
 
-  from_three : {A B C : Type 0} (make : A → B → C → Call) (a : Reading A) (b : Reading B) (c : Reading C) (out : Call) → made (λ args. make args.0 args.1.0 args.1.1) (both a (both b c)) ≡ Ok out
+  from_three : {A B C : Type 0} (make : A → B → C → Call) (a : Reading A) (b : Reading B) (c : Reading C) (out : Call) → map_reading (λ args. make args.0 args.1.0 args.1.1) (both a (both b c)) ≡ Ok out
       → ((x : A) (y : B) (z : C) → a ≡ Ok x → b ≡ Ok y → c ≡ Ok z → MayBeMade (make x y z)) → MayBeMade out
   from_three make a b c out h p = from_made MayBeMade (λ args. make args.0 args.1.0 args.1.1) (both a (both b c)) out h (λ args e.
       let is = both_are a (both b c) args e in

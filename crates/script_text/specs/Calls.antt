@@ -7,18 +7,18 @@ use Rattle.kern_model.specs.declared.calls.CallName.{CallName}
 use Rattle.kern_model.specs.declared.calls.CallName.TheVariants as name
 use Rattle.lab_text.specs.Policy.{PolicyNames}
 use Rattle.script_text.specs.declared.fault.LineError.TheVariants as error
-use Rattle.script_text.specs.Reading.{Reading, both, made}
+use Rattle.script_text.specs.Reading.{Reading, both, map_reading}
 use Rattle.script_text.specs.Argument as argument
 
 -- ---- the table
 
 -- a call of two values
 abbrev pub two : {A B : Type 0} → (A → B → Call) → Reading A → Reading B → Reading Call
-two make a b = made (λ args. make args.0 args.1) (both a b)
+two make a b = map_reading (λ args. make args.0 args.1) (both a b)
 
 -- a call of three values
 abbrev pub three : {A B C : Type 0} → (A → B → C → Call) → Reading A → Reading B → Reading C → Reading Call
-three make a b c = made (λ args. make args.0 args.1.0 args.1.1) (both a (both b c))
+three make a b c = map_reading (λ args. make args.0 args.1.0 args.1.1) (both a (both b c))
 
 -- the calls without arguments
 unfoldable pub none_parsed : CallName → Reading Call
@@ -34,27 +34,27 @@ none_parsed _ = Err error.Syntax
 
 -- the calls with one argument
 unfoldable pub one_parsed : PolicyNames → CallName → List ℕ → Reading Call
-one_parsed policy name.Close w = made call.Close (argument.number w)
-one_parsed policy name.Dup w = made call.Dup (argument.number w)
-one_parsed policy name.Fstat w = made call.Fstat (argument.number w)
-one_parsed policy name.Rmdir w = made call.Rmdir (argument.path w)
-one_parsed policy name.Unlink w = made call.Unlink (argument.path w)
-one_parsed policy name.Readdir w = made call.Readdir (argument.path w)
-one_parsed policy name.Stat w = made call.Stat (argument.path w)
-one_parsed policy name.Chdir w = made call.Chdir (argument.path w)
-one_parsed policy name.Umask w = made call.Umask (argument.permissions w)
-one_parsed policy name.CapGetFile w = made call.CapGetFile (argument.path w)
-one_parsed policy name.CapGetFd w = made call.CapGetFd (argument.number w)
-one_parsed policy name.MacGetFile w = made call.MacGetFile (argument.path w)
-one_parsed policy name.MacGetFd w = made call.MacGetFd (argument.number w)
-one_parsed policy name.Exec w = made call.Exec (argument.path w)
-one_parsed policy name.Exit w = made call.Exit (argument.up_to MAX_STATUS w)
-one_parsed policy name.Setuid w = made call.Setuid (argument.number w)
-one_parsed policy name.Setgid w = made call.Setgid (argument.number w)
-one_parsed policy name.CapSetProc w = made call.CapSetProc (argument.caps w)
-one_parsed policy name.MacSetProc w = made call.MacSetProc (argument.label policy w)
-one_parsed policy name.AudWrite w = made call.AudWrite (argument.bytes w)
-one_parsed policy name.AudSwitch w = made call.AudSwitch (argument.switch w)
+one_parsed policy name.Close w = map_reading call.Close (argument.number w)
+one_parsed policy name.Dup w = map_reading call.Dup (argument.number w)
+one_parsed policy name.Fstat w = map_reading call.Fstat (argument.number w)
+one_parsed policy name.Rmdir w = map_reading call.Rmdir (argument.path w)
+one_parsed policy name.Unlink w = map_reading call.Unlink (argument.path w)
+one_parsed policy name.Readdir w = map_reading call.Readdir (argument.path w)
+one_parsed policy name.Stat w = map_reading call.Stat (argument.path w)
+one_parsed policy name.Chdir w = map_reading call.Chdir (argument.path w)
+one_parsed policy name.Umask w = map_reading call.Umask (argument.permissions w)
+one_parsed policy name.CapGetFile w = map_reading call.CapGetFile (argument.path w)
+one_parsed policy name.CapGetFd w = map_reading call.CapGetFd (argument.number w)
+one_parsed policy name.MacGetFile w = map_reading call.MacGetFile (argument.path w)
+one_parsed policy name.MacGetFd w = map_reading call.MacGetFd (argument.number w)
+one_parsed policy name.Exec w = map_reading call.Exec (argument.path w)
+one_parsed policy name.Exit w = map_reading call.Exit (argument.up_to MAX_STATUS w)
+one_parsed policy name.Setuid w = map_reading call.Setuid (argument.number w)
+one_parsed policy name.Setgid w = map_reading call.Setgid (argument.number w)
+one_parsed policy name.CapSetProc w = map_reading call.CapSetProc (argument.caps w)
+one_parsed policy name.MacSetProc w = map_reading call.MacSetProc (argument.label policy w)
+one_parsed policy name.AudWrite w = map_reading call.AudWrite (argument.bytes w)
+one_parsed policy name.AudSwitch w = map_reading call.AudSwitch (argument.switch w)
 one_parsed policy _ w = Err error.Syntax
 
 -- the calls with two arguments

@@ -16,7 +16,7 @@ use Rattle.sec_utils.specs.declared.util.Tool.{Tool}
 use Rattle.script_text.specs.declared.line.Line.{Line}
 use Rattle.script_text.specs.declared.line.Line.TheVariants as line
 use Rattle.script_text.specs.declared.fault.LineError.TheVariants as error
-use Rattle.script_text.specs.Reading.{Reading, both, made}
+use Rattle.script_text.specs.Reading.{Reading, both, map_reading}
 use Rattle.script_text.specs.Argument as argument
 use Rattle.script_text.specs.Calls.{parse_call}
 use Rattle.script_text.specs.Tools.{parse_tool}
@@ -27,12 +27,12 @@ bytes_in words = map (λ (w : LineWord). w.bytes) words
 
 -- a call with its tag and its arguments, or their first fault
 abbrev pub call_line : PolicyNames → List ℕ → List (List ℕ) → CallName → Reading Line
-call_line policy tag arguments call = made (λ item. line.One item.0 item.1) (both (argument.tag policy tag) (parse_call policy call arguments))
+call_line policy tag arguments call = map_reading (λ item. line.One item.0 item.1) (both (argument.tag policy tag) (parse_call policy call arguments))
 
 -- the call, or else the utility, that the second word names
 abbrev pub item_by : PolicyNames → List ℕ → List (List ℕ) → Option CallName → Option Tool → Reading Line
 item_by policy tag arguments (Some call) tool = call_line policy tag arguments call
-item_by policy tag arguments None (Some tool) = made line.Tool (parse_tool policy tag tool arguments)
+item_by policy tag arguments None (Some tool) = map_reading line.Tool (parse_tool policy tag tool arguments)
 item_by policy tag arguments None None = Err error.Syntax
 
 -- `TAG CALL ARGUMENTS` or `TAG TOOL ARGUMENTS`, of which the first two stand bare

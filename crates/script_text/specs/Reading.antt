@@ -44,9 +44,9 @@ both (Err e) (Ok b) = Err e
 both (Err e) (Err f) = Err (first_of e f)
 
 -- what a function makes of the value that was read
-unfoldable pub made : {A B : Type 0} → (A → B) → Reading A → Reading B
-made make (Ok a) = Ok (make a)
-made make (Err e) = Err e
+unfoldable pub map_reading : {A B : Type 0} → (A → B) → Reading A → Reading B
+map_reading make (Ok a) = Ok (make a)
+map_reading make (Err e) = Err e
 
 -- an error is what was parsed, or memory ran out
 abbrev pub IsCause : {X : Type 0} → Reading X → LineError → Type 0

@@ -12,7 +12,7 @@ use Rattle.sec_utils.specs.declared.util.Tool.{Tool}
 use Rattle.sec_utils.specs.declared.util.Tool.TheVariants as tool
 use Rattle.sec_utils.specs.declared.util.Util.{Util}
 use Rattle.script_text.specs.declared.fault.LineError.TheVariants as error
-use Rattle.script_text.specs.Reading.{Reading, both, made}
+use Rattle.script_text.specs.Reading.{Reading, both, map_reading}
 use Rattle.script_text.specs.Argument as argument
 
 -- the paths that words denote, where each denotes one
@@ -39,12 +39,12 @@ with_mark args = record args.0 { mark = Some args.1 }
 -- a utility that sets nothing: the tag, and one path or more
 unfoldable pub on_paths : PolicyNames → List ℕ → Tool → List (List ℕ) → Reading Util
 on_paths policy tag tool [] = Err error.Syntax
-on_paths policy tag tool (w ∷ ws) = made (plain tool (w ∷ ws)) (both (argument.tag policy tag) (paths (w ∷ ws)))
+on_paths policy tag tool (w ∷ ws) = map_reading (plain tool (w ∷ ws)) (both (argument.tag policy tag) (paths (w ∷ ws)))
 
 -- a utility with its tag and its arguments, or their first fault
 unfoldable pub parse_tool : PolicyNames → List ℕ → Tool → List (List ℕ) → Reading Util
 parse_tool policy tag tool.GetFcap words = on_paths policy tag tool.GetFcap words
 parse_tool policy tag tool.GetFmac words = on_paths policy tag tool.GetFmac words
-parse_tool policy tag tool.SetFcap (w ∷ ws) = made with_caps (both (on_paths policy tag tool.SetFcap ws) (argument.caps w))
-parse_tool policy tag tool.SetFmac (w ∷ ws) = made with_mark (both (on_paths policy tag tool.SetFmac ws) (argument.label policy w))
+parse_tool policy tag tool.SetFcap (w ∷ ws) = map_reading with_caps (both (on_paths policy tag tool.SetFcap ws) (argument.caps w))
+parse_tool policy tag tool.SetFmac (w ∷ ws) = map_reading with_mark (both (on_paths policy tag tool.SetFmac ws) (argument.label policy w))
 parse_tool policy tag _ [] = Err error.Syntax

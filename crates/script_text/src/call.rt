@@ -35,7 +35,7 @@ fn call_of_none(name: CallName) -> Result<Call, LineError>
 }
 
 // The calls with one argument.
-#[tactic(auto, unfolding(crate::specs::Calls::one_parsed, crate::specs::Reading::made))]
+#[tactic(auto, unfolding(crate::specs::Calls::one_parsed, crate::specs::Reading::map_reading))]
 fn call_of_one(
     alloc: Global,
     policy: &Policy,
@@ -83,7 +83,7 @@ fn two<A: Drop, B: Drop, F: FnOnce(A, B) -> Call>(
 }
 
 // The calls with two arguments.
-#[tactic(auto, unfolding(crate::specs::Calls::two_parsed, crate::specs::Reading::made, crate::specs::Reading::both))]
+#[tactic(auto, unfolding(crate::specs::Calls::two_parsed, crate::specs::Reading::map_reading, crate::specs::Reading::both))]
 fn call_of_two(
     alloc: Global,
     policy: &Policy,
@@ -120,7 +120,7 @@ fn call_of_two(
 }
 
 // The calls with three arguments.
-#[tactic(auto, unfolding(crate::specs::Calls::three_parsed, crate::specs::Reading::made, crate::specs::Reading::both))]
+#[tactic(auto, unfolding(crate::specs::Calls::three_parsed, crate::specs::Reading::map_reading, crate::specs::Reading::both))]
 fn call_of_three(
     alloc: Global,
     name: CallName,

@@ -39,7 +39,7 @@ impl Drop for Line {
 }
 
 // A call with its tag and its arguments. It is moved into its line at once, and not by way of `both`.
-#[tactic(auto, unfolding(crate::specs::Argument::tag, crate::specs::Reading::made, crate::specs::Reading::both))]
+#[tactic(auto, unfolding(crate::specs::Argument::tag, crate::specs::Reading::map_reading, crate::specs::Reading::both))]
 fn call_line(
     alloc: Global,
     policy: &Policy,
@@ -59,7 +59,7 @@ fn call_line(
 }
 
 // What the words of a line say.
-#[tactic(auto, unfolding(crate::specs::Line::parse_item, crate::specs::Reading::made))]
+#[tactic(auto, unfolding(crate::specs::Line::parse_item, crate::specs::Reading::map_reading))]
 fn item_of(alloc: Global, policy: &Policy, words: &[LineWord<'_>]) -> Result<Line, LineError>
     ensures { Answers (parse_item policy.now words.now) result }
 {

@@ -33,7 +33,7 @@ fn texts_of(alloc: Global, words: &[LineWord<'_>]) -> Result<ByteLists, NoMemory
 }
 
 // A utility that sets nothing, on one path or more.
-#[tactic(auto, unfolding(crate::specs::Tools::on_paths, crate::specs::Reading::made, crate::specs::Reading::both))]
+#[tactic(auto, unfolding(crate::specs::Tools::on_paths, crate::specs::Reading::map_reading, crate::specs::Reading::both))]
 fn on_paths(
     alloc: Global,
     policy: &Policy,
@@ -58,7 +58,7 @@ fn on_paths(
 }
 
 /// A utility with its tag and its arguments.
-#[tactic(auto, unfolding(crate::specs::Tools::parse_tool, crate::specs::Reading::made, crate::specs::Reading::both))]
+#[tactic(auto, unfolding(crate::specs::Tools::parse_tool, crate::specs::Reading::map_reading, crate::specs::Reading::both))]
 pub fn util_of(
     alloc: Global,
     policy: &Policy,

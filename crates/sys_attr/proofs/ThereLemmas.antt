@@ -1,9 +1,9 @@
 -- Objects that a call names are there.
-use Rattle.std.specs.Prelude.{◌≡◌, ℕ, true, false, Option, None, Some, Result, Ok, Err, IfOk, cond, refl}
+use Rattle.std.specs.Prelude.{◌≡◌, ℕ, Option, None, Some, Result, Ok, Err, IfOk, refl}
 use Rattle.std.specs.FinMap as map
 use Rattle.std.specs.FinMap.{FinMap}
 use Rattle.std.specs.Option.{option_and_then, option_map}
-use Rattle.std.proofs.Common.{sym, subst, inl, inr}
+use Rattle.std.proofs.Common.{subst}
 use Rattle.std.proofs.Math.Logic.{∥∥₁_map, ∥∥₁_elim}
 use Rattle.fs_path.specs.Path.{PathValue}
 use Rattle.kern_model.specs.declared.checks.Place.{Place}
@@ -13,12 +13,13 @@ use Rattle.kern_model.specs.declared.numbers.Pid.{Pid}
 use Rattle.kern_model.specs.declared.objects.Object.{Object}
 use Rattle.kern_model.specs.Descriptors.{Opened, opened}
 use Rattle.kern_model.specs.Keys.{oid_cmp}
-use Rattle.kern_model.specs.State.{State, Process, Description, root}
+use Rattle.kern_model.specs.State.{State, Process, Description}
 use Rattle.kern_model.specs.Valid.{IsThere, IsValid}
 use Rattle.kern_model.specs.Walk.{start_of}
 use Rattle.kern_model.proofs.MapLemmas.{never_some, some_same}
 use Rattle.chk_rules.specs.declared.stop.Stop.{Stop}
 use Rattle.sys_lookup.specs.Walks.{IsLedTo}
+use Rattle.sys_lookup.proofs.LedLemmas.{led_there}
 
 -- what is known to be there is there, also where the proof gives nothing else
 there_where : (objects : FinMap oid_cmp Object) (id : Oid) → ∥ IsThere objects id ∥₁ → IsThere objects id
@@ -29,17 +30,6 @@ there_where objects id known =
     ] refl
 
 -- ---- by a path
-
--- where a path starts is there
-start_there : (s : State) → IsValid s → (who : Pid) (p : Process) → map.get s.procs who ≡ Some p → (path : PathValue) → IsThere s.objects (start_of p path)
-start_there s valid who p living path =
-    let r = valid.root_is in
-    let cwd = (valid.procs who p living).cwd in
-    elim path.absolute as (λ b. IsThere s.objects (cond b root p.cwd)) [ true ↦ record { value = r.object; is = r.is } | false ↦ record { value = cwd.object; is = cwd.is } ]
-
-led_there : (s : State) → IsValid s → (who : Pid) (p : Process) → map.get s.procs who ≡ Some p → (path : PathValue) (id : Oid) → IsLedTo s (start_of p path) id → IsThere s.objects id
-led_there s valid who p living path id (inl same) = subst (IsThere s.objects) (sym same) (start_there s valid who p living path)
-led_there s valid who p living path id (inr named) = let entry = valid.entries (named.dir, named.name) id named.leads in record { value = entry.object; is = entry.object_is }
 
 -- what a path leads to is there
 pub path_there : (s : State) → ∥ IsValid s ∥₁ → (who : Pid) (p : Process) → map.get s.procs who ≡ Some p → (path : PathValue) (r : Result (Oid × Place) Stop) → IfOk r (λ x. IsLedTo s (start_of p path) x.0) → IfOk r (λ x. IsThere s.objects x.0)

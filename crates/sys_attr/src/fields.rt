@@ -12,10 +12,10 @@ use crate::file_caps::ask_caps;
 use crate::labels::ask_label;
 use crate::objects::{ObjectArgument, read_named, write_named};
 use cap_bits::CapState;
-use chk_rules::{Checks, Stop, refuse_if};
+use chk_rules::{Checks, refuse_if};
 use kern_model::{Answer, Attr, Errno, Pid, Rec};
 use lab_lattice::Label;
-use sys_lookup::{Caller, Effect, Shared};
+use sys_lookup::{CallResult, Caller, Effect, Shared};
 
 /// What a call reads of an object.
 #[derive(Clone, Copy, Debug, PartialEq, Eq)]
@@ -42,7 +42,7 @@ pub fn get_field(
     who: &Pid,
     object: ObjectArgument<'_>,
     field: Field,
-) -> Result<Effect, Stop>
+) -> CallResult
     requires living { IsSome (map.get shared.now.procs who.now) }
     ensures { PlaysRow shared.now checks.old (get_row shared.now (process_at shared.now who.now) object.entry field) result shared.now checks.new }
 {
@@ -64,7 +64,7 @@ pub fn set_field(
     who: &Pid,
     object: ObjectArgument<'_>,
     setting: Setting,
-) -> Result<Effect, Stop>
+) -> CallResult
     requires valid { ∥ IsValid shared.old ∥₁ }
     requires living { IsSome (map.get shared.old.procs who.now) }
     ensures { PlaysRow shared.old checks.old (set_row shared.old who.now (process_at shared.old who.now) object.entry setting) result shared.new checks.new }

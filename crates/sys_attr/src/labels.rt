@@ -1,5 +1,4 @@
 // What is asked of the calls that set the label of an object.
-ghost use Rattle.kern_model.specs.AttrRows.{change_label};
 ghost use Rattle.sys_lookup.specs.StepOn.{StepIn};
 ghost use Rattle.sys_attr.specs.Objects.{asks_label_at};
 
@@ -22,19 +21,6 @@ pub fn ask_label(
     if label.equal(&object.label) {
         return Ok(());
     }
-    may_change(caller, checks, object, label, place)
-}
-
-// Checks that the caller may give an object this label, which is another one.
-fn may_change(
-    caller: &Caller<'_>,
-    checks: &mut Checks,
-    object: &Metadata,
-    label: &Label,
-    place: Place,
-) -> Result<(), Stop>
-    ensures { StepIn caller.now.state checks.old object.now (λ id rest. change_label caller.now.state label.now id place (rest tt)) result checks.new }
-{
     caller.mac_change(checks, object, label, place)?;
     caller.relabelled_order(checks, object, label, place)?;
     refuse_if(caller.has_entries(object), Errno::ENOTEMPTY)

@@ -15,7 +15,7 @@ use crate::objects::{ObjectArgument, write_named};
 use chk_rules::{Checks, Stop};
 use kern_model::limits::MAX_PERMISSIONS;
 use kern_model::{Answer, Attr, Mode, Path, Pid, Place};
-use sys_lookup::{Caller, Effect, Metadata, Shared, has_set_id};
+use sys_lookup::{CallResult, Caller, Effect, Metadata, Shared, has_set_id};
 
 /// `chmod`: an object gets a mode. Its set-id bits stay away where the caller does not own it and may not keep them.
 pub fn chmod(
@@ -24,7 +24,7 @@ pub fn chmod(
     who: &Pid,
     path: &Path,
     mode: Mode,
-) -> Result<Effect, Stop>
+) -> CallResult
     requires valid { ∥ IsValid shared.old ∥₁ }
     requires living { IsSome (map.get shared.old.procs who.now) }
     ensures { PlaysRow shared.old checks.old (chmod_row shared.old who.now (process_at shared.old who.now) path.now mode) result shared.new checks.new }
@@ -92,7 +92,7 @@ pub fn mode_kept(
 }
 
 /// `umask`: the caller gets the bits that its new objects do not get. The answer is the old ones. No memory is taken.
-pub fn umask(shared: &mut Shared, checks: &Checks, who: &Pid, mode: Mode) -> Result<Effect, Stop>
+pub fn umask(shared: &mut Shared, checks: &Checks, who: &Pid, mode: Mode) -> CallResult
     requires living { IsSome (map.get shared.old.procs who.now) }
     ensures played { PlaysRow shared.old checks.now (umask_row shared.old who.now (process_at shared.old who.now) mode) result shared.new checks.now }
     ensures nothing { LeavesNothing result }

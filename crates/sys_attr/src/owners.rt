@@ -13,7 +13,7 @@ use crate::modes::{AskedMode, mode_kept};
 use crate::objects::{ObjectArgument, write_named};
 use chk_rules::{Checks, Stop};
 use kern_model::{Attr, Mode, Path, Pid, Place};
-use sys_lookup::{Caller, Effect, Metadata, Ownership, Shared, has_set_id};
+use sys_lookup::{CallResult, Caller, Effect, Metadata, Ownership, Shared, has_set_id};
 
 /// `chown`: an object gets an owner and a group. Its set-id bits go where the caller may not keep them.
 pub fn chown(
@@ -22,7 +22,7 @@ pub fn chown(
     who: &Pid,
     path: &Path,
     to: Ownership,
-) -> Result<Effect, Stop>
+) -> CallResult
     requires valid { ∥ IsValid shared.old ∥₁ }
     requires living { IsSome (map.get shared.old.procs who.now) }
     ensures { PlaysRow shared.old checks.old (ownership_row shared.old who.now path.now to) result shared.new checks.new }

@@ -2,36 +2,28 @@
 ghost use Rattle.std.specs.Prelude.{◌≡◌, IsSome, true};
 ghost use Rattle.std.specs.FinMap as map;
 ghost use Rattle.kern_model.specs.Arguments.{has_names};
-ghost use Rattle.kern_model.specs.State.{process_at};
-ghost use Rattle.kern_model.specs.Table.{row};
 ghost use Rattle.kern_model.specs.Valid.{IsValid};
-ghost use Rattle.sys_lookup.specs.Memory.{takes_no_memory};
-ghost use Rattle.sys_lookup.specs.PlaysRow.{LeavesNothing, PlaysRow};
+ghost use Rattle.sys_lookup.specs.CallRows.{LeavesNothingOf, PlaysRowOf};
 ghost use Rattle.sys_attr.specs.Playing.{is_attr_call};
 
 use crate::fields::{Field, Setting, get_field, set_field};
 use crate::modes::{chmod, umask};
 use crate::objects::ObjectArgument::{Descriptor, Path};
 use crate::owners::chown;
-use chk_rules::{Checks, Stop};
+use chk_rules::Checks;
 use kern_model::{Call, Pid};
-use sys_lookup::{Effect, Ownership, Shared};
+use sys_lookup::{CallResult, Ownership, Shared};
 
 /// Plays a call of a living process on modes, owners, the umask, capability sets of files, or labels of objects.
 #[inline(never)]
 #[tactic(auto, unfolding(kern_model::specs::Arguments::has_names))]
-pub fn play(
-    shared: &mut Shared,
-    checks: &mut Checks,
-    who: &Pid,
-    call: &Call,
-) -> Result<Effect, Stop>
+pub fn play(shared: &mut Shared, checks: &mut Checks, who: &Pid, call: &Call) -> CallResult
     requires call { is_attr_call call.now ≡ true }
     requires valid { ∥ IsValid shared.old ∥₁ }
     requires living { IsSome (map.get shared.old.procs who.now) }
-    ensures played { PlaysRow shared.old checks.old (row shared.old who.now (process_at shared.old who.now) call.now) result shared.new checks.new }
+    ensures played { PlaysRowOf shared.old who.now call.now checks.old result shared.new checks.new }
     ensures names { has_names call.now ≡ true }
-    ensures nothing { takes_no_memory call.now ≡ true → LeavesNothing result }
+    ensures nothing { LeavesNothingOf call.now result }
 {
     match call {
         Call::Chmod(path, mode) => chmod(shared, checks, who, path, *mode),

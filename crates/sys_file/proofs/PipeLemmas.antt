@@ -12,7 +12,7 @@ use Rattle.kern_model.specs.declared.numbers.Did.{Did}
 use Rattle.kern_model.specs.declared.numbers.Oid.{Oid}
 use Rattle.kern_model.specs.declared.numbers.Pid.{Pid}
 use Rattle.kern_model.specs.Descriptors.{lowest_free, with_descriptor}
-use Rattle.kern_model.specs.FileRows.{drawing_pipe, has_free_descriptors, on_pipe, opening, piped, second_description}
+use Rattle.kern_model.specs.FileRows.{drawing_pipe, has_free_descriptors, on_pipe, opening, pipe_creation, second_description}
 use Rattle.kern_model.specs.State.{State, Process, changed_by, drawn, next_description, next_object, process_at}
 use Rattle.kern_model.proofs.KeyLaws.{pid_cmp_total, pid_cmp_exact}
 use Rattle.kern_model.proofs.MapLemmas.{get-insert_same, get_or-found}
@@ -59,7 +59,7 @@ module _ (s : State) (who : Pid) (p : Process) (id : Oid) where
   pub reader_is : process_at with_reader who ≡ with_descriptor p first
   reader_is = process_is with_reader who (with_descriptor p first) (get-insert_same pid_cmp_total s.procs who (with_descriptor p first))
 
-  pub both_are : id ≡ next_object s p.label → with_both ≡ changed_by s (piped s who p)
+  pub both_are : id ≡ next_object s p.label → with_both ≡ changed_by s (pipe_creation s who p)
   both_are is =
       let l = p.label in
       let n = drawn s.description_numbers l in

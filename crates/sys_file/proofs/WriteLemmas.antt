@@ -6,7 +6,7 @@ use Rattle.kern_model.specs.declared.checks.Place.TheVariants.{Handle}
 use Rattle.kern_model.specs.declared.objects.Attr.{Attr}
 use Rattle.kern_model.specs.declared.objects.Object.{Object}
 use Rattle.kern_model.specs.Descriptors.{Opened}
-use Rattle.kern_model.specs.FileRows.{keeps_attr, move_after, moved, put_in, writes_at}
+use Rattle.kern_model.specs.FileRows.{keeps_attr, move_after, offset_change, put_in, writes_at}
 use Rattle.kern_model.specs.declared.calls.Errno.{Errno}
 use Rattle.kern_model.specs.declared.numbers.Pid.{Pid}
 use Rattle.cap_bits.specs.CapSet.{no_caps}
@@ -29,7 +29,7 @@ module _ (s : State) (bytes : List ℕ) (f : Opened) (o : Object) (at : ℕ) (a 
 
   -- the offset moves after it
   abbrev after : Change
-  after = moved f (at + length bytes)
+  after = offset_change f (at + length bytes)
 
   -- the file has the piece and these attributes, and the offset moves
   abbrev keeping : Attr → Row

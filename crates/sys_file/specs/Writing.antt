@@ -2,9 +2,9 @@
 use Rattle.std.specs.Prelude.{ℕ, List}
 use Rattle.kern_model.specs.declared.numbers.Oid.{Oid}
 use Rattle.kern_model.specs.declared.objects.Attr.{Attr}
-use Rattle.kern_model.specs.FileRows.{rewritten, written_over}
+use Rattle.kern_model.specs.FileRows.{content_change, written_over}
 use Rattle.kern_model.specs.State.{State, Change, object_at}
 
 -- the change of a file that gets a piece at a place, and these attributes
 abbrev pub overwritten : State → Oid → ℕ → List ℕ → Attr → Change
-overwritten s id at bytes attr = rewritten id (object_at s id) (written_over (object_at s id).bytes at bytes) attr
+overwritten s id at bytes attr = content_change id (object_at s id) (written_over (object_at s id).bytes at bytes) attr

@@ -17,10 +17,10 @@ ghost use Rattle.sys_file.specs.Descriptors.{IsOpen, PlaysOpened, seek_row};
 use chk_rules::{Checks, Stop, refuse_if};
 use fd_table::Opened;
 use kern_model::{Answer, Errno, Fd, Oid, Pid, Place, Whence};
-use sys_lookup::{Caller, Effect, Shared};
+use sys_lookup::{CallResult, Caller, Effect, Shared};
 
 /// `close`: a descriptor closes. What it refers to goes, where no other descriptor refers to it. It takes no memory.
-pub fn close(shared: &mut Shared, who: &Pid, fd: Fd) -> Result<Effect, Stop>
+pub fn close(shared: &mut Shared, who: &Pid, fd: Fd) -> CallResult
     requires valid { ∥ IsValid shared.old ∥₁ }
     requires living { IsSome (map.get shared.old.procs who.now) }
     ensures played { (log : CheckLog) → PlaysRow shared.old log (close_row shared.old who.now (process_at shared.old who.now) fd) result shared.new log }
@@ -44,7 +44,7 @@ fn close_open(shared: &mut Shared, who: &Pid, fd: Fd)
 }
 
 /// `dup`: a further descriptor, the lowest that is free, on the same description. It takes no memory.
-pub fn dup(shared: &mut Shared, who: &Pid, fd: Fd) -> Result<Effect, Stop>
+pub fn dup(shared: &mut Shared, who: &Pid, fd: Fd) -> CallResult
     requires { IsSome (map.get shared.old.procs who.now) }
     ensures played { (log : CheckLog) → PlaysRow shared.old log (dup_row shared.old who.now (process_at shared.old who.now) fd) result shared.new log }
     ensures nothing { LeavesNothing result }
@@ -55,7 +55,7 @@ pub fn dup(shared: &mut Shared, who: &Pid, fd: Fd) -> Result<Effect, Stop>
 }
 
 // Has the lowest descriptor that is free refer to what a descriptor refers to that is open.
-fn repeat(shared: &mut Shared, who: &Pid, fd: Fd) -> Result<Effect, Stop>
+fn repeat(shared: &mut Shared, who: &Pid, fd: Fd) -> CallResult
     requires { IsOpen shared.old who.now fd }
     ensures played { PlaysOpened shared.old who.now fd (repeat who.now (process_at shared.old who.now)) result shared.new }
     ensures nothing { LeavesNothing result }
@@ -68,7 +68,7 @@ fn repeat(shared: &mut Shared, who: &Pid, fd: Fd) -> Result<Effect, Stop>
 }
 
 /// `fstat`: what is reported of the object that a descriptor refers to.
-pub fn fstat(caller: &Caller<'_>, checks: &mut Checks, fd: Fd) -> Result<Effect, Stop>
+pub fn fstat(caller: &Caller<'_>, checks: &mut Checks, fd: Fd) -> CallResult
     ensures { (who : Number) → PlaysRow caller.now.state checks.old (fstat_row caller.now.state who caller.now.process fd) result caller.now.state checks.new }
 {
     let opened = caller.opened(fd)?;
@@ -85,13 +85,7 @@ pub struct Seek {
 }
 
 /// `lseek`: the offset of a descriptor on a file moves, within the file's bytes.
-pub fn lseek(
-    shared: &mut Shared,
-    checks: &mut Checks,
-    who: &Pid,
-    fd: Fd,
-    seek: Seek,
-) -> Result<Effect, Stop>
+pub fn lseek(shared: &mut Shared, checks: &mut Checks, who: &Pid, fd: Fd, seek: Seek) -> CallResult
     requires valid { ∥ IsValid shared.old ∥₁ }
     requires living { IsSome (map.get shared.old.procs who.now) }
     ensures { PlaysRow shared.old checks.old (seek_row shared.old who.now fd seek) result shared.new checks.new }
@@ -106,7 +100,7 @@ pub fn lseek(
 }
 
 // Moves the offset of a descriptor on a file of so many bytes, or refuses where it is not within them.
-fn move_to(shared: &mut Shared, who: &Pid, fd: Fd, to: i64, size: u32) -> Result<Effect, Stop>
+fn move_to(shared: &mut Shared, who: &Pid, fd: Fd, to: i64, size: u32) -> CallResult
     ensures { PlaysOpened shared.old who.now fd (λ f. moves f to size) result shared.new }
 {
     match shared.fds.seek(who, fd, to, size) {

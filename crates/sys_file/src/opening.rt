@@ -4,9 +4,10 @@ ghost use Rattle.std.specs.FinMap as map;
 ghost use Rattle.kern_model.specs.Arguments.{are_names};
 ghost use Rattle.kern_model.specs.Descriptors.{lowest_free};
 ghost use Rattle.kern_model.specs.Entries.{is_removed};
-ghost use Rattle.kern_model.specs.FileRows.{has_descriptions, has_free_descriptors, opening, rewritten};
+ghost use Rattle.kern_model.specs.FileRows.{has_descriptions, has_free_descriptors, opening, content_change};
 ghost use Rattle.kern_model.specs.Kinds.{is_fifo, is_file};
-ghost use Rattle.kern_model.specs.OpenRows.{allowed_by_kind, allowed_by_label, allowed_by_mode, emptying, to_absent, to_emptied, to_present};
+ghost use Rattle.kern_model.specs.OpenRows.{allowed_by_kind, emptying, to_absent, to_emptied, to_present};
+ghost use Rattle.kern_model.specs.Row.{need_if};
 ghost use Rattle.kern_model.specs.State.{State, changed, changed_by, look, object_at, process_at};
 ghost use Rattle.kern_model.specs.Valid.{IsDir, IsValid};
 ghost use Rattle.kern_model.specs.declared.numbers.Oid.{Oid as Number};
@@ -23,10 +24,13 @@ ghost use Rattle.sys_file.specs.Opening.{CanBeEmptied, EmptiesFiles, opens_file,
 use chk_rules::{Checks, Stop, refuse_if};
 use fd_table::{FdError, How};
 use kern_model::{
-    Answer, Attr, Body, ByteList, Errno, Fd, Kind, Mode, NoMemory, Oid, OpenFlags, Path, Pid, Place,
+    Answer, Attr, Body, ByteList, Check, Errno, Fd, Kind, Mode, NoMemory, Oid, OpenFlags, Path,
+    Pid, Place,
 };
 use std::alloc::Global;
-use sys_lookup::{Caller, Effect, Found, Metadata, PathArgument, Shared, Spot, create, must_if};
+use sys_lookup::{
+    CallResult, Caller, Effect, Found, Metadata, PathArgument, Shared, Spot, create, must_if,
+};
 
 /// What `open` is asked for: a path, flags, and the mode of a file that is made, before the caller's umask.
 #[derive(Clone, Copy)]
@@ -43,7 +47,7 @@ pub fn open(
     checks: &mut Checks,
     who: &Pid,
     opening: &OpenRequest<'_>,
-) -> Result<Effect, Stop>
+) -> CallResult
     requires valid { ∥ IsValid shared.old ∥₁ }
     requires living { IsSome (map.get shared.old.procs who.now) }
     ensures played { PlaysRow shared.old checks.old (request_row shared.old who.now opening.now) result shared.new checks.new }
@@ -102,24 +106,33 @@ fn may_open(
 {
     let object = caller.metadata(id);
     refuse_if(both(flags.c, flags.x), Errno::EEXIST)?;
-    label_allows(caller, checks, flags, &object, place)?;
+    must_for(
+        flags,
+        checks,
+        &caller.mac_read_check(&object, place),
+        &caller.mac_write_check(&object, place),
+    )?;
     kind_allows(caller, checks, flags, &object, place)?;
-    mode_allows(caller, checks, flags, &object, place)?;
+    must_for(
+        flags,
+        checks,
+        &caller.dac_read_check(&object, place),
+        &caller.dac_write_check(&object, place),
+    )?;
     emptied_attr(caller, checks, flags, &object, place)
 }
 
-// Checks that the caller may open an object by its label.
-fn label_allows(
-    caller: &Caller<'_>,
-    checks: &mut Checks,
+// Makes the check of what is opened for reading, and the check of what is opened for writing.
+fn must_for(
     flags: OpenFlags,
-    object: &Metadata,
-    place: Place,
+    checks: &mut Checks,
+    reading: &Check,
+    writing: &Check,
 ) -> Result<(), Stop>
-    ensures { StepOn checks.old object.now (λ s id rest. allowed_by_label caller.now.process flags id place (object_at s id) (rest tt)) result checks.new }
+    ensures { GoesOn checks.old (λ rest. need_if flags.r reading.now (need_if flags.w writing.now (rest tt))) result checks.new }
 {
-    must_if(flags.r, checks, &caller.mac_read_check(object, place))?;
-    must_if(flags.w, checks, &caller.mac_write_check(object, place))
+    must_if(flags.r, checks, reading)?;
+    must_if(flags.w, checks, writing)
 }
 
 // Checks that an object is of a kind that the caller may open so.
@@ -136,20 +149,6 @@ fn kind_allows(
     let drains = both(is_fifo(object.kind), flags.r);
     refuse_if(both(drains, flags.w), Errno::EINVAL)?;
     must_if(drains, checks, &caller.mac_write_check(object, place))
-}
-
-// Checks that the caller may open an object by its mode.
-fn mode_allows(
-    caller: &Caller<'_>,
-    checks: &mut Checks,
-    flags: OpenFlags,
-    object: &Metadata,
-    place: Place,
-) -> Result<(), Stop>
-    ensures { StepOn checks.old object.now (λ s id rest. allowed_by_mode caller.now.process flags id place (object_at s id) (rest tt)) result checks.new }
-{
-    must_if(flags.r, checks, &caller.dac_read_check(object, place))?;
-    must_if(flags.w, checks, &caller.dac_write_check(object, place))
 }
 
 // The attributes with which a file is emptied, if it is.
@@ -199,7 +198,7 @@ fn open_present(
     id: &Oid,
     flags: OpenFlags,
     emptied: Option<Attr>,
-) -> Result<Effect, Stop>
+) -> CallResult
     requires living { IsSome (map.get shared.old.procs who.now) }
     requires free { has_free_descriptors (process_at shared.old who.now) 1 ≡ true }
     requires left { has_descriptions shared.old (process_at shared.old who.now) 1 ≡ true }
@@ -218,7 +217,7 @@ fn open_new(
     who: &Pid,
     spot: &Spot<'_>,
     opening: &OpenRequest<'_>,
-) -> Result<Effect, Stop>
+) -> CallResult
     requires valid { ∥ IsValid shared.old ∥₁ }
     requires living { IsSome (map.get shared.old.procs who.now) }
     requires free { has_free_descriptors (process_at shared.old who.now) 1 ≡ true }
@@ -290,7 +289,7 @@ fn set_content(shared: &mut Shared, id: &Oid, emptied: Option<Attr>)
 // Empties a file, and gives it other attributes. It takes no memory.
 fn empty(shared: &mut Shared, id: &Oid, attr: Attr)
     requires { IsFile shared.old.objects id.now }
-    ensures { (o : Object) → map.get shared.old.objects id.now ≡ Some o → shared.new ≡ changed shared.old (rewritten id.now o [] attr) }
+    ensures { (o : Object) → map.get shared.old.objects id.now ≡ Some o → shared.new ≡ changed shared.old (content_change id.now o [] attr) }
 {
     shared.tree.truncate(id);
     shared.tree.set_attr(id, attr);

@@ -3,19 +3,19 @@ ghost use Rattle.std.specs.Prelude.{◌≡◌, None, IfOk, IsSome, OnOk, true};
 ghost use Rattle.std.specs.FinMap as map;
 ghost use Rattle.kern_model.specs.Arguments.{are_names};
 ghost use Rattle.kern_model.specs.Create.{has_object_number};
-ghost use Rattle.kern_model.specs.FileRows.{both_ends, drawing_pipe, has_descriptions, has_free_descriptors, pipe_row, piped};
+ghost use Rattle.kern_model.specs.FileRows.{both_ends, drawing_pipe, has_descriptions, has_free_descriptors, pipe_row, pipe_creation};
 ghost use Rattle.kern_model.specs.State.{changed_by, next_object, process_at};
 ghost use Rattle.kern_model.specs.TreeRows.{mkfifo_row};
 ghost use Rattle.kern_model.specs.Valid.{IsValid};
 ghost use Rattle.chk_rules.specs.CheckLog.{CheckLog};
-ghost use Rattle.sys_lookup.specs.PlaysRow.{PlaysRow};
+ghost use Rattle.sys_lookup.specs.PlaysRow.{PlaysCall, PlaysRow};
 ghost use Rattle.sys_file.specs.PipeEnds.{end_flags};
 
 use crate::opening::describe;
 use cap_bits::CapState;
-use chk_rules::{Checks, Stop, refuse_if};
+use chk_rules::{Checks, refuse_if};
 use kern_model::{Answer, Attr, Body, Errno, Mode, Oid, OpenFlags, Path, Pid};
-use sys_lookup::{Caller, Effect, NewObject, NoMemory, Shared, make};
+use sys_lookup::{CallResult, Caller, Effect, NewObject, NoMemory, Shared, make};
 
 /// `mkfifo`: a FIFO is made where nothing has the name.
 pub fn mkfifo(
@@ -24,19 +24,22 @@ pub fn mkfifo(
     who: &Pid,
     path: &Path,
     mode: Mode,
-) -> Result<Effect, Stop>
+) -> CallResult
     requires valid { ∥ IsValid shared.old ∥₁ }
     requires living { IsSome (map.get shared.old.procs who.now) }
-    ensures played { PlaysRow shared.old checks.old (mkfifo_row shared.old who.now (process_at shared.old who.now) path.now mode) result shared.new checks.new }
+    ensures played { PlaysCall shared.old who.now checks.old (λ s who p. mkfifo_row s who p path.now mode) result shared.new checks.new }
     ensures names { are_names path.now ≡ true }
 {
-    let body = Body::Fifo;
-    make(shared, checks, who, path, NewObject { mode, body })
+    let fifo = NewObject {
+        mode,
+        body: Body::Fifo,
+    };
+    make(shared, checks, who, path, fifo)
 }
 
 /// `pipe`: a pipe is made. The caller's two lowest free descriptors are opened on it, the first for reading and the second for
 /// writing.
-pub fn pipe(shared: &mut Shared, who: &Pid) -> Result<Effect, Stop>
+pub fn pipe(shared: &mut Shared, who: &Pid) -> CallResult
     requires { IsSome (map.get shared.old.procs who.now) }
     ensures { (log : CheckLog) → PlaysRow shared.old log (pipe_row shared.old who.now (process_at shared.old who.now)) result shared.new log }
 {
@@ -53,7 +56,7 @@ fn make_pipe(shared: &mut Shared, who: &Pid) -> Result<Effect, NoMemory>
     requires free { has_free_descriptors (process_at shared.old who.now) 2 ≡ true }
     requires left { has_descriptions shared.old (process_at shared.old who.now) 2 ≡ true }
     ensures answer { IfOk result (λ effect. effect ≡ record { answer = both_ends shared.old (process_at shared.old who.now); own = None }) }
-    ensures piped { OnOk result (shared.new ≡ changed_by shared.old (piped shared.old who.now (process_at shared.old who.now))) }
+    ensures piped { OnOk result (shared.new ≡ changed_by shared.old (pipe_creation shared.old who.now (process_at shared.old who.now))) }
 {
     let id = create_pipe(shared, who)?;
     let reader = describe(shared, who, &id, end_flags(true))?;

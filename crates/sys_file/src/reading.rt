@@ -16,16 +16,10 @@ use chk_rules::{Checks, Stop};
 use fd_table::{Opened, PipeError};
 use kern_model::limits::MAX_PIPE_BYTES;
 use kern_model::{Answer, ByteList, Errno, Fd, NoMemory, Oid, Pid, Place};
-use sys_lookup::{Caller, Effect, Shared};
+use sys_lookup::{CallResult, Caller, Effect, Shared};
 
 /// `read`: up to `n` bytes of a file from the offset on, or from the start of a pipe or FIFO, which loses them.
-pub fn read(
-    shared: &mut Shared,
-    checks: &mut Checks,
-    who: &Pid,
-    fd: Fd,
-    n: u32,
-) -> Result<Effect, Stop>
+pub fn read(shared: &mut Shared, checks: &mut Checks, who: &Pid, fd: Fd, n: u32) -> CallResult
     requires valid { ∥ IsValid shared.old ∥₁ }
     requires living { IsSome (map.get shared.old.procs who.now) }
     ensures { PlaysRow shared.old checks.old (read_row shared.old who.now (process_at shared.old who.now) fd n) result shared.new checks.new }
@@ -40,13 +34,7 @@ pub fn read(
 }
 
 // Reads up to `n` bytes of a file from the offset on, which moves after them.
-fn read_file(
-    shared: &mut Shared,
-    who: &Pid,
-    fd: Fd,
-    opened: &Opened,
-    n: u32,
-) -> Result<Effect, Stop>
+fn read_file(shared: &mut Shared, who: &Pid, fd: Fd, opened: &Opened, n: u32) -> CallResult
     requires valid { ∥ IsValid shared.old ∥₁ }
     requires open { RefersTo shared.old who.now fd opened.now }
     requires file { IsFile shared.old.objects opened.now.description.object }
@@ -67,7 +55,7 @@ fn bytes_at(shared: &Shared, id: &Oid, at: u32, n: u32) -> Result<ByteList, NoMe
 }
 
 // Takes up to `n` bytes out of a pipe or FIFO. They are copied first, since that may run out of memory.
-fn read_stream(shared: &mut Shared, opened: &Opened, n: u32) -> Result<Effect, Stop>
+fn read_stream(shared: &mut Shared, opened: &Opened, n: u32) -> CallResult
     requires valid { ∥ IsValid shared.old ∥₁ }
     requires stream { IsStream shared.old.objects opened.now.description.object }
     ensures { (log : CheckLog) → PlaysRow shared.old log (comes_out true shared.old n opened.now (open_object shared.old opened.now)) result shared.new log }

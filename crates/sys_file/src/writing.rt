@@ -2,7 +2,7 @@
 ghost use Rattle.std.specs.Prelude.{◌≡◌, ◌+◌, ◌≤◌, ℕ, None, Some, IfOk, IsSome, OnOk, length};
 ghost use Rattle.std.specs.FinMap as map;
 ghost use Rattle.kern_model.specs.Descriptors.{Opened as Description, opened};
-ghost use Rattle.kern_model.specs.FileRows.{moved, open_object, place_in, putting, to_place, write_row};
+ghost use Rattle.kern_model.specs.FileRows.{offset_change, open_object, place_in, putting, to_place, write_row};
 ghost use Rattle.kern_model.specs.State.{changed, object_at, process_at};
 ghost use Rattle.kern_model.specs.Valid.{IsValid};
 ghost use Rattle.kern_model.specs.declared.calls.Answer.TheVariants as answer;
@@ -23,7 +23,7 @@ use fd_table::{Opened, PipeError};
 use fs_nodes::WriteError;
 use kern_model::limits::MAX_FILE_BYTES;
 use kern_model::{Answer, Attr, Errno, Fd, Oid, Pid, Place};
-use sys_lookup::{Caller, Effect, NoMemory, Shared};
+use sys_lookup::{CallResult, Caller, Effect, NoMemory, Shared};
 
 /// `write`: all these bytes go into a file at the offset, or at its end where the descriptor appends, or into a pipe or FIFO.
 pub fn write(
@@ -32,7 +32,7 @@ pub fn write(
     who: &Pid,
     fd: Fd,
     bytes: &[u8],
-) -> Result<Effect, Stop>
+) -> CallResult
     requires valid { ∥ IsValid shared.old ∥₁ }
     requires living { IsSome (map.get shared.old.procs who.now) }
     ensures { PlaysRow shared.old checks.old (write_row shared.old who.now (process_at shared.old who.now) fd bytes.now) result shared.new checks.new }
@@ -52,7 +52,7 @@ pub fn write(
 }
 
 // Puts bytes at the end of a pipe or FIFO.
-fn write_stream(shared: &mut Shared, opened: &Opened, bytes: &[u8]) -> Result<Effect, Stop>
+fn write_stream(shared: &mut Shared, opened: &Opened, bytes: &[u8]) -> CallResult
     requires { IsStream shared.old.objects opened.now.description.object }
     ensures { (log : CheckLog) → PlaysRow shared.old log (putting shared.old opened.now bytes.now) result shared.new log }
 {
@@ -119,7 +119,7 @@ fn overwrite(
 fn move_after(shared: &mut Shared, who: &Pid, fd: Fd, at: u32, bytes: &[u8]) -> Effect
     requires open { IsOpen shared.old who.now fd }
     requires few { at + length bytes.now ≤ MAX_FILE_BYTES }
-    ensures moved { (f : Description) → RefersTo shared.old who.now fd f → shared.new ≡ changed shared.old (moved f (at + length bytes.now)) }
+    ensures moved { (f : Description) → RefersTo shared.old who.now fd f → shared.new ≡ changed shared.old (offset_change f (at + length bytes.now)) }
     ensures effect { result ≡ record { answer = answer.Number (length bytes.now); own = None } }
 {
     let count = bytes.len() as u32;

@@ -6,8 +6,7 @@ use Rattle.std.proofs.Common.{ap, sym, ◌∙◌}
 use Rattle.kern_model.specs.declared.numbers.Pid.{Pid}
 use Rattle.kern_model.specs.Keys.{pid_cmp}
 use Rattle.kern_model.specs.State.{Process}
-use Rattle.kern_model.proofs.KeyLaws.{pid_cmp_total, pid_cmp_exact}
-use Rattle.kern_model.proofs.MapLemmas.{some_same, insert-same}
+use Rattle.kern_model.proofs.MapLemmas.{some_same}
 use Rattle.proc_creds.specs.Credentials.{Credentials}
 use Rattle.fd_table.specs.Fds.{AllFds}
 use Rattle.proc_table.specs.Procs.{creds_of, set_creds, under_creds, with_creds}

@@ -4,6 +4,7 @@ pub mod CheckLemmas
 pub mod ClosingLemmas
 pub mod FdChanges
 pub mod FdLemmas
+pub mod LedLemmas
 pub mod LendLemmas
 pub mod MakeLemmas
 pub mod OpenedLemmas

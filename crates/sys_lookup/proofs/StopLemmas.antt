@@ -10,7 +10,7 @@ use Rattle.kern_model.specs.declared.checks.Place.{Place}
 use Rattle.kern_model.specs.declared.numbers.Oid.{Oid}
 use Rattle.kern_model.specs.declared.records.Rec.{Rec}
 use Rattle.kern_model.specs.Kinds.{is_dir}
-use Rattle.kern_model.specs.Row.{Row, Need, Refuse, Commit, Subject, Stopped, Refused, Done, check_outcome, judge, is_denied, noted, verdict_of}
+use Rattle.kern_model.specs.Row.{Row, Need, Refuse, Commit, Subject, Stopped, Refused, Done, check_outcome, judge, is_denied, exercises_after, verdict_of}
 use Rattle.kern_model.specs.Rules.{mac_read, dac_search}
 use Rattle.kern_model.specs.State.{State, Process, look, object_at}
 use Rattle.kern_model.specs.Walk.{Found, Start, Entry, enter, or_missing, walk_from}
@@ -28,9 +28,9 @@ so_need : (c : Check) (r : Row) → RefusesSo r → RefusesSo (Need c r)
 unfolding judge
 so_need c r rest = record {
   so = λ a used e.
-      elim (is_denied (verdict_of a c)) as (λ b. (cond b (check_outcome used (Stopped c.name c.place)) (judge a (noted a c (verdict_of a c) used) r)).end ≡ Refused e → IsWalkStop (stop.Refused e)) [
+      elim (is_denied (verdict_of a c)) as (λ b. (cond b (check_outcome used (Stopped c.name c.place)) (judge a (exercises_after a c (verdict_of a c) used) r)).end ≡ Refused e → IsWalkStop (stop.Refused e)) [
         | true ↦ λ (h : Stopped c.name c.place ≡ Refused e). absurd (cc)
-        | false ↦ λ h. rest.so a (noted a c (verdict_of a c) used) e h
+        | false ↦ λ h. rest.so a (exercises_after a c (verdict_of a c) used) e h
       ];
 }
 

@@ -1,3 +1,4 @@
+pub mod CallRows
 pub mod Callers
 pub mod Calling
 pub mod Directories

@@ -8,6 +8,7 @@ use Rattle.kern_model.specs.declared.checks.Place.{Place}
 use Rattle.kern_model.specs.declared.checks.Thing.TheVariants as thing
 use Rattle.kern_model.specs.declared.numbers.Oid.{Oid}
 use Rattle.kern_model.specs.declared.numbers.Pid.{Pid}
+use Rattle.kern_model.specs.declared.objects.Object.{Object}
 use Rattle.kern_model.specs.Keys.{pid_cmp}
 use Rattle.kern_model.specs.Maps.{select}
 use Rattle.kern_model.specs.State.{State, Process, object_at}
@@ -37,9 +38,13 @@ state_of h = record {
   top = h.top;
 }
 
+-- the metadata of an object with a number
+abbrev pub metadata_with : Oid → Object → Metadata
+metadata_with id o = record { id = id; kind = o.kind; label = o.label; attr = o.attr }
+
 -- the metadata of the object with a number, and of the stub where there is none
 abbrev pub metadata_of : State → Oid → Metadata
-metadata_of s id = record { id = id; kind = (object_at s id).kind; label = (object_at s id).label; attr = (object_at s id).attr }
+metadata_of s id = metadata_with id (object_at s id)
 
 -- a check of an object, of which the metadata are at hand
 abbrev pub check_on : CheckName → Bool → Option Label → Metadata → Place → Check

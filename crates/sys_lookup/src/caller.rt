@@ -6,6 +6,7 @@ ghost use Rattle.kern_model.specs.Row.{Need, Soft};
 ghost use Rattle.kern_model.specs.Rules.{created_order, dac_read, dac_search, dac_write, fsetid, held_order, link_dir, mac_read, mac_write, mode_allows as mode_lets, unlink_dir};
 ghost use Rattle.kern_model.specs.declared.checks.CheckName.TheVariants as check;
 ghost use Rattle.lab_lattice.specs.Label.{dominates};
+ghost use Rattle.chk_rules.specs.RowSteps.{GoesOn};
 ghost use Rattle.sys_lookup.specs.Callers.{IsLiving, caller_in};
 ghost use Rattle.sys_lookup.specs.StepOn.{IsCheckOn, StepOn};
 ghost use Rattle.sys_lookup.specs.Shared.{check_on};
@@ -68,6 +69,7 @@ impl<'a> Caller<'a> {
 
 impl Caller<'_> {
     /// The check that the caller's label dominates that of an object, which is what labels ask of a read.
+    #[inline(always)]
     pub fn mac_read_check(&self, object: &Metadata, place: Place) -> Check
         ensures { IsCheckOn object.now (λ s id. mac_read s self.now.process id place) result }
     {
@@ -76,6 +78,7 @@ impl Caller<'_> {
     }
 
     /// The check that the labels of the caller and of an object are equal, which is what labels ask of a write.
+    #[inline(always)]
     pub fn mac_write_check(&self, object: &Metadata, place: Place) -> Check
         ensures { IsCheckOn object.now (λ s id. mac_write s self.now.process id place) result }
     {
@@ -84,6 +87,7 @@ impl Caller<'_> {
     }
 
     /// The check that the mode of an object lets the caller read it.
+    #[inline(always)]
     pub fn dac_read_check(&self, object: &Metadata, place: Place) -> Check
         ensures { IsCheckOn object.now (λ s id. dac_read s self.now.process id place) result }
     {
@@ -92,6 +96,7 @@ impl Caller<'_> {
     }
 
     /// The check that the mode of an object lets the caller write it.
+    #[inline(always)]
     pub fn dac_write_check(&self, object: &Metadata, place: Place) -> Check
         ensures { IsCheckOn object.now (λ s id. dac_write s self.now.process id place) result }
     {
@@ -100,13 +105,16 @@ impl Caller<'_> {
     }
 
     /// Makes the check of [`mac_read_check`](Caller::mac_read_check).
+    #[inline(always)]
     pub fn mac_read(&self, checks: &mut Checks, object: &Metadata, place: Place) -> Result<(), Stop>
         ensures { StepOn checks.old object.now (λ s id rest. Need (mac_read s self.now.process id place) (rest tt)) result checks.new }
     {
-        must(checks, &self.mac_read_check(object, place))
+        let holds = mac_read_ok(&self.label(), &object.label);
+        must_hold(checks, CheckName::MacRead, holds, object, place)
     }
 
     /// Makes the check of [`mac_write_check`](Caller::mac_write_check).
+    #[inline(always)]
     pub fn mac_write(
         &self,
         checks: &mut Checks,
@@ -115,17 +123,21 @@ impl Caller<'_> {
     ) -> Result<(), Stop>
         ensures { StepOn checks.old object.now (λ s id rest. Need (mac_write s self.now.process id place) (rest tt)) result checks.new }
     {
-        must(checks, &self.mac_write_check(object, place))
+        let holds = mac_write_ok(&self.label(), &object.label);
+        must_hold(checks, CheckName::MacWrite, holds, object, place)
     }
 
     /// Makes the check of [`dac_read_check`](Caller::dac_read_check).
+    #[inline(always)]
     pub fn dac_read(&self, checks: &mut Checks, object: &Metadata, place: Place) -> Result<(), Stop>
         ensures { StepOn checks.old object.now (λ s id rest. Need (dac_read s self.now.process id place) (rest tt)) result checks.new }
     {
-        must(checks, &self.dac_read_check(object, place))
+        let holds = self.mode_lets(object, Want::Read);
+        must_hold(checks, CheckName::DacRead, holds, object, place)
     }
 
     /// Makes the check of [`dac_write_check`](Caller::dac_write_check).
+    #[inline(always)]
     pub fn dac_write(
         &self,
         checks: &mut Checks,
@@ -134,7 +146,8 @@ impl Caller<'_> {
     ) -> Result<(), Stop>
         ensures { StepOn checks.old object.now (λ s id rest. Need (dac_write s self.now.process id place) (rest tt)) result checks.new }
     {
-        must(checks, &self.dac_write_check(object, place))
+        let holds = self.mode_lets(object, Want::Write);
+        must_hold(checks, CheckName::DacWrite, holds, object, place)
     }
 
     /// Checks that the caller may search a directory.
@@ -143,7 +156,7 @@ impl Caller<'_> {
         ensures { StepOn checks.old dir.now (λ s id rest. Need (dac_search s self.now.process id place) (rest tt)) result checks.new }
     {
         let holds = self.mode_lets(dir, Want::Execute);
-        must(checks, &check_of(CheckName::DacSearch, holds, dir, place))
+        must_hold(checks, CheckName::DacSearch, holds, dir, place)
     }
 
     /// Checks that an object may get one more name: it is no directory.
@@ -151,7 +164,7 @@ impl Caller<'_> {
         ensures { StepOn checks.old object.now (λ s id rest. Need (link_dir s id place) (rest tt)) result checks.new }
     {
         let holds = !object.is_directory();
-        must(checks, &check_of(CheckName::LinkDir, holds, object, place))
+        must_hold(checks, CheckName::LinkDir, holds, object, place)
     }
 
     /// Checks that a name of an object may be unlinked: it is no directory.
@@ -164,10 +177,7 @@ impl Caller<'_> {
         ensures { StepOn checks.old object.now (λ s id rest. Need (unlink_dir s id place) (rest tt)) result checks.new }
     {
         let holds = !object.is_directory();
-        must(
-            checks,
-            &check_of(CheckName::UnlinkDir, holds, object, place),
-        )
+        must_hold(checks, CheckName::UnlinkDir, holds, object, place)
     }
 
     /// Asks whether the set-id bits and capabilities of an object, if it has some, may stay: they may where `plain` holds.
@@ -183,11 +193,17 @@ impl Caller<'_> {
         prefer(checks, &check_of(CheckName::Fsetid, plain, object, place))
     }
 
-    /// The check of a directory in which the caller makes an object: the order of labels holds.
-    pub fn created_order(&self, dir: &Oid, place: Place) -> Check
-        ensures { result ≡ created_order self.now.state self.now.process dir.now place }
+    /// Checks the order of labels where the caller makes an object in a directory.
+    pub(crate) fn created_order(
+        &self,
+        checks: &mut Checks,
+        dir: &Metadata,
+        place: Place,
+    ) -> Result<(), Stop>
+        ensures { StepOn checks.old dir.now (λ s id rest. Need (created_order s self.now.process id place) (rest tt)) result checks.new }
     {
-        label_order(&self.label(), &self.metadata(dir), place)
+        let holds = self.label().dominates(&dir.label);
+        must_hold(checks, CheckName::LabelOrder, holds, dir, place)
     }
 
     /// The check of a directory that gets an entry for an object: the order of labels holds.
@@ -218,6 +234,37 @@ fn label_order(label: &Label, dir: &Metadata, place: Place) -> Check
         dir,
         place,
     )
+}
+
+/// Makes a check of an object that has to let the call go on. Only where its rule does not hold is the check built.
+#[tactic(auto, unfolding(kern_model::specs::Row::judge, kern_model::specs::Row::verdict_of))]
+#[inline(always)]
+pub fn must_hold(
+    checks: &mut Checks,
+    name: CheckName,
+    holds: bool,
+    object: &Metadata,
+    place: Place,
+) -> Result<(), Stop>
+    ensures { GoesOn checks.old (λ rest. Need (check_on name holds None object.now place) (rest tt)) result checks.new }
+{
+    if holds {
+        return Ok(());
+    }
+    must_be_capable(checks, name, object, place)
+}
+
+// Makes a check whose rule does not hold: the call goes on by a capability, or stops.
+#[inline(never)]
+fn must_be_capable(
+    checks: &mut Checks,
+    name: CheckName,
+    object: &Metadata,
+    place: Place,
+) -> Result<(), Stop>
+    ensures { GoesOn checks.old (λ rest. Need (check_on name false None object.now place) (rest tt)) result checks.new }
+{
+    must(checks, &check_of(name, false, object, place))
 }
 
 /// A check of an object, given whether its rule holds.

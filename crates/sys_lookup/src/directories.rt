@@ -73,7 +73,10 @@ impl Caller<'_> {
         ensures stands { OnOk result (is_removed self.now.state dir.now ≡ false) }
         ensures step { GoesOn checks.old (λ rest. make_in self.now.state self.now.process dir.now place (rest tt)) result checks.new }
     {
-        self.enter_in(checks, dir, place, &self.created_order(dir, place))
+        let object = self.write_object(checks, dir, place)?;
+        self.dac_write(checks, &object, place)?;
+        self.created_order(checks, &object, place)?;
+        refuse_if(self.is_removed(dir), Errno::ENOENT)
     }
 
     /// Writes the directory from which the entry at the end of a path is to be taken, and the entry's object, and returns the

@@ -2,7 +2,11 @@
 ghost use Rattle.std.specs.Prelude.{◌≡◌, None};
 ghost use Rattle.kern_model.specs.declared.calls.Answer.TheVariants as answer;
 
+use chk_rules::Stop;
 use kern_model::{Answer, Rec};
+
+/// What the body of a call returns: its effect, or why it stopped.
+pub type CallResult = Result<Effect, Stop>;
 
 /// What the body of a call gives: the answer, and the call's own record if it leaves one.
 #[derive(Debug, Drop)]

@@ -4,9 +4,9 @@ ghost use Rattle.kern_model.specs.Rules.{dac_execute, exec_kind};
 ghost use Rattle.kern_model.specs.State.{object_at};
 ghost use Rattle.sys_lookup.specs.StepOn.{StepOn};
 
-use crate::caller::{Caller, check_of};
+use crate::caller::{Caller, must_hold};
 use crate::shared::Metadata;
-use chk_rules::{Checks, Stop, Want, must};
+use chk_rules::{Checks, Stop, Want};
 use kern_model::{CheckName, Place};
 
 impl Caller<'_> {
@@ -20,7 +20,7 @@ impl Caller<'_> {
         ensures { StepOn checks.old object.now (λ s id rest. Need (exec_kind id (object_at s id) place) (rest tt)) result checks.new }
     {
         let holds = object.is_file();
-        must(checks, &check_of(CheckName::ExecKind, holds, object, place))
+        must_hold(checks, CheckName::ExecKind, holds, object, place)
     }
 
     /// Checks that the mode of a file lets the caller execute it.
@@ -33,9 +33,6 @@ impl Caller<'_> {
         ensures { StepOn checks.old object.now (λ s id rest. Need (dac_execute self.now.process id (object_at s id) place) (rest tt)) result checks.new }
     {
         let holds = self.mode_lets(object, Want::Execute);
-        must(
-            checks,
-            &check_of(CheckName::DacExecute, holds, object, place),
-        )
+        must_hold(checks, CheckName::DacExecute, holds, object, place)
     }
 }

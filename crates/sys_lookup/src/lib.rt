@@ -25,7 +25,7 @@ mod walking;
 pub use argument::PathArgument;
 pub use asking::must_if;
 pub use caller::Caller;
-pub use effect::Effect;
+pub use effect::{CallResult, Effect};
 pub use found::Found;
 pub use kern_model::NoMemory;
 pub use last_name::LastName;

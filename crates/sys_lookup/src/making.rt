@@ -2,7 +2,7 @@
 ghost use Rattle.std.specs.Prelude.{◌≡◌, None, IfErr, IfOk, IsSome, OnOk, false, true};
 ghost use Rattle.std.specs.FinMap as map;
 ghost use Rattle.kern_model.specs.Arguments.{are_names};
-ghost use Rattle.kern_model.specs.Create.{attr_of, made, to_number};
+ghost use Rattle.kern_model.specs.Create.{attr_of, creation, to_number};
 ghost use Rattle.kern_model.specs.Entries.{is_removed};
 ghost use Rattle.kern_model.specs.Kinds.{kind_of, masked, object_with};
 ghost use Rattle.kern_model.specs.State.{changed_by, look, process_at};
@@ -74,7 +74,7 @@ pub fn create(
     requires absent { look shared.old spot.now.0 spot.now.1 ≡ None }
     requires no_pipe { kind_of body ≡ kind.Pipe → ⊥ }
     ensures step { (log : CheckLog) → GoesOn log (to_number shared.old label) result log }
-    ensures made { OnOk result (shared.new ≡ changed_by shared.old (made shared.old label spot.now.0 spot.now.1 (object_with label attr body))) }
+    ensures made { OnOk result (shared.new ≡ changed_by shared.old (creation shared.old label spot.now.0 spot.now.1 (object_with label attr body))) }
     ensures kept { IfErr result (λ how. Keeps how shared.old shared.new) }
 {
     refuse_if(!shared.can_create(&label), Errno::ENOSPC)?;

@@ -9,7 +9,7 @@ ghost use Rattle.chk_rules.specs.RowSteps.{GoesOn};
 ghost use Rattle.sys_lookup.specs.StepOn.{StepOn};
 ghost use Rattle.sys_lookup.specs.Shared.{metadata_of};
 
-use crate::caller::{Caller, check_of};
+use crate::caller::{Caller, check_of, must_hold};
 use crate::shared::Metadata;
 use cap_bits::CapState;
 use chk_rules::{Checks, Stop, has_group, must};
@@ -76,7 +76,7 @@ impl Caller<'_> {
         ensures { StepOn checks.old object.now (λ s id rest. Need (owner s self.now.process id place) (rest tt)) result checks.new }
     {
         let holds = self.is_owner(object);
-        must(checks, &check_of(CheckName::Owner, holds, object, place))
+        must_hold(checks, CheckName::Owner, holds, object, place)
     }
 
     /// Checks that the caller may give an object an owner and a group: it owns the object, the owner stays, and the group is one
@@ -93,7 +93,7 @@ impl Caller<'_> {
         let creds = self.creds();
         let stays = to.owner == object.attr.owner;
         let holds = stays && self.is_owner(object) && has_group(&creds.ids, to.group);
-        must(checks, &check_of(CheckName::Chown, holds, object, place))
+        must_hold(checks, CheckName::Chown, holds, object, place)
     }
 
     /// Checks that the caller may set the capability sets of a file: never without the capability.

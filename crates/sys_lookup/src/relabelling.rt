@@ -8,7 +8,7 @@ ghost use Rattle.kern_model.specs.Keys.{same_oid};
 ghost use Rattle.sys_lookup.specs.StepOn.{IsCheckOn, StepIn, StepOn, one_check};
 ghost use Rattle.sys_lookup.specs.Shared.{check_on, metadata_of};
 
-use crate::caller::{Caller, check_of};
+use crate::caller::{Caller, check_of, must_hold};
 use crate::shared::Metadata;
 use chk_rules::{Checks, Stop, must};
 use fs_dirs::root_directory;
@@ -63,10 +63,7 @@ impl Caller<'_> {
         ensures { StepIn self.now.state checks.old object.now (λ id. one_check (relabelled_order self.now.state id label.now place)) result checks.new }
     {
         let holds = self.may_bear(object, label);
-        must(
-            checks,
-            &check_of(CheckName::LabelOrder, holds, object, place),
-        )
+        must_hold(checks, CheckName::LabelOrder, holds, object, place)
     }
 
     /// Whether an object is a directory that contains entries.

@@ -1,6 +1,6 @@
 // What is asked of an object whose content is read or changes.
 ghost use Rattle.std.specs.Prelude.{◌≡◌};
-ghost use Rattle.kern_model.specs.FileRows.{cleared};
+ghost use Rattle.kern_model.specs.FileRows.{unprivileged};
 ghost use Rattle.kern_model.specs.Kinds.{has_set_id, is_stream};
 ghost use Rattle.kern_model.specs.Rules.{is_plain};
 ghost use Rattle.sys_lookup.specs.Rewriting.{kept_attr};
@@ -60,7 +60,7 @@ fn has_set_id(mode: Mode) -> bool
 
 // The attributes without set-id bits and capabilities.
 fn plain_attr(attr: &Attr) -> Attr
-    ensures { result ≡ cleared attr.now }
+    ensures { result ≡ unprivileged attr.now }
 {
     Attr {
         mode: attr.mode & MAX_PERMISSIONS,

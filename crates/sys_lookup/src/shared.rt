@@ -5,7 +5,7 @@ ghost use Rattle.kern_model.specs.Kinds.{is_dir};
 use cap_bits::{CapSet, CapState};
 use fd_table::FdTable;
 use fs_dirs::Tree;
-use kern_model::{Attr, Kind, Oid};
+use kern_model::{Attr, Kind, Object, Oid};
 use lab_lattice::Label;
 use proc_table::Procs;
 use std::marker::Model;
@@ -59,6 +59,40 @@ pub struct Metadata {
 }
 
 impl Metadata {
+    ghost use Rattle.kern_model.specs.State.{stub_object};
+    ghost use Rattle.sys_lookup.specs.Shared.{metadata_with};
+
+    /// Those of an object with this number.
+    #[inline(always)]
+    pub(crate) fn of(id: &Oid, object: &Object) -> Metadata
+        ensures { result ≡ metadata_with id.now object.now }
+    {
+        Metadata {
+            id: *id,
+            kind: object.kind,
+            label: object.label,
+            attr: object.attr,
+        }
+    }
+
+    /// Those of the stub, which stands for an object that is not there: it has the highest label.
+    #[inline(always)]
+    pub(crate) fn of_stub(id: &Oid, top: &Label) -> Metadata
+        ensures { result ≡ metadata_with id.now (stub_object top.now) }
+    {
+        Metadata {
+            id: *id,
+            kind: Kind::File,
+            label: *top,
+            attr: Attr {
+                owner: 0,
+                group: 0,
+                mode: 0,
+                caps: CapState::none(),
+            },
+        }
+    }
+
     /// Whether the object is a directory.
     pub fn is_directory(&self) -> bool
         ensures { result ≡ is_dir self.now.kind }
@@ -80,23 +114,8 @@ impl Shared {
         ensures { result ≡ metadata_of self.now id.now }
     {
         match self.tree.nodes().get(id) {
-            Some(object) => Metadata {
-                id: *id,
-                kind: object.kind,
-                label: object.label,
-                attr: object.attr,
-            },
-            None => Metadata {
-                id: *id,
-                kind: Kind::File,
-                label: self.top,
-                attr: Attr {
-                    owner: 0,
-                    group: 0,
-                    mode: 0,
-                    caps: CapState::none(),
-                },
-            },
+            Some(object) => Metadata::of(id, object),
+            None => Metadata::of_stub(id, &self.top),
         }
     }
 }

@@ -9,7 +9,6 @@ ghost use Rattle.fs_dirs.specs.Tree.{MayBeAdded};
 
 use crate::last_name::LastName;
 use crate::shared::Shared;
-use fs_dirs::AddError;
 use fs_nodes::NodeError;
 use kern_model::{Attr, Body, NoMemory, Oid};
 use lab_lattice::Label;
@@ -43,10 +42,6 @@ impl Shared {
         requires may { MayBeAdded self.old id.now }
         ensures { OnOk result (self.new ≡ changed self.old (SetEntry (dir.now, name.now) id.now)) }
     {
-        match self.tree.add(dir, name.name(), id) {
-            Ok(()) => Ok(()),
-            Err(AddError::NoMemory(e)) => Err(e),
-            Err(AddError::Exists | AddError::Removed) => unreachable!(),
-        }
+        self.tree.add_absent(dir, name.name(), id)
     }
 }

@@ -9,9 +9,9 @@ ghost use Rattle.sys_lookup.specs.PlaysRow.{PlaysRow};
 use crate::changing::{CredsChange, change_creds};
 use crate::checking::check_of_caller;
 use cap_bits::CapState;
-use chk_rules::{Checks, Stop, must};
+use chk_rules::{Checks, must};
 use kern_model::{Answer, Check, CheckName, Pid, Rec};
-use sys_lookup::{Caller, Effect, Shared};
+use sys_lookup::{CallResult, Caller, Effect, Shared};
 
 /// `cap_set_proc`: the caller sets its capability sets.
 pub fn cap_set_proc(
@@ -19,7 +19,7 @@ pub fn cap_set_proc(
     checks: &mut Checks,
     who: &Pid,
     caps: CapState,
-) -> Result<Effect, Stop>
+) -> CallResult
     requires living { IsSome (map.get shared.old.procs who.now) }
     ensures { PlaysRow shared.old checks.old (cap_set_proc_row shared.old who.now (process_at shared.old who.now) caps) result shared.new checks.new }
 {

@@ -10,10 +10,10 @@ ghost use Rattle.sys_proc.specs.Playing.{PlaysUnchecked};
 use chk_rules::Stop;
 use kern_model::{Answer, Errno, Pid, Rec};
 use proc_table::{ProcError, ReapError};
-use sys_lookup::{Effect, Shared};
+use sys_lookup::{CallResult, Effect, Shared};
 
 /// `fork`: the caller gets a child that is like it, with descriptors on the same descriptions.
-pub fn fork(shared: &mut Shared, who: &Pid) -> Result<Effect, Stop>
+pub fn fork(shared: &mut Shared, who: &Pid) -> CallResult
     requires valid { ∥ IsValid shared.old ∥₁ }
     requires living { IsSome (map.get shared.old.procs who.now) }
     ensures { PlaysUnchecked shared.old (fork_row shared.old who.now (process_at shared.old who.now)) result shared.new }
@@ -31,7 +31,7 @@ pub fn fork(shared: &mut Shared, who: &Pid) -> Result<Effect, Stop>
 }
 
 /// `wait`: the child of the caller that ended first is taken off its list, and the call answers how it ended. It takes no memory.
-pub fn wait(shared: &mut Shared, who: &Pid) -> Result<Effect, Stop>
+pub fn wait(shared: &mut Shared, who: &Pid) -> CallResult
     requires { IsSome (map.get shared.old.procs who.now) }
     ensures played { PlaysUnchecked shared.old (wait_row shared.old who.now (process_at shared.old who.now)) result shared.new }
     ensures nothing { LeavesNothing result }

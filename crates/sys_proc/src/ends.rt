@@ -1,7 +1,7 @@
 // The calls `exit` and `kill`.
 ghost use Rattle.std.specs.Prelude.{◌≡◌, IsSome, Ok, option_copied, option_map};
 ghost use Rattle.std.specs.FinMap as map;
-ghost use Rattle.kern_model.specs.ProcessRows.{asks_signal, exit_row, kill_row, kill_with, signalled as signalled_row, writes_present};
+ghost use Rattle.kern_model.specs.ProcessRows.{asks_signal, exit_row, kill_row, kill_with, signalled as signalled_row};
 ghost use Rattle.kern_model.specs.Rules.{kill_rule as kill_check, mac_write_process};
 ghost use Rattle.kern_model.specs.State.{process_at};
 ghost use Rattle.kern_model.specs.Valid.{IsValid};
@@ -14,7 +14,7 @@ use chk_rules::{Checks, Stop, mac_write_ok, must};
 use kern_model::{Answer, Check, CheckName, Ending, Errno, Pid, Place, Rec, Signal, Thing};
 use lab_lattice::Label;
 use proc_table::Proc;
-use sys_lookup::{Caller, Effect, Shared};
+use sys_lookup::{CallResult, Caller, Effect, Shared, must_if};
 
 /// `exit`: the caller ends. It takes no memory.
 pub fn exit(shared: &mut Shared, who: &Pid, code: u8) -> Effect
@@ -32,7 +32,7 @@ pub fn kill(
     who: &Pid,
     target: &Pid,
     signal: Signal,
-) -> Result<Effect, Stop>
+) -> CallResult
     requires valid { ∥ IsValid shared.old ∥₁ }
     requires living { IsSome (map.get shared.old.procs who.now) }
     ensures { PlaysRow shared.old checks.old (kill_row shared.old who.now (process_at shared.old who.now) target.now signal) result shared.new checks.new }
@@ -62,24 +62,10 @@ fn may_signal(
 ) -> Result<(), Stop>
     ensures { GoesOn checks.old (λ rest. asks_signal sender.now.process target.now receiver.now (rest tt)) result checks.new }
 {
-    mac_write_present(sender, checks, target, receiver)?;
-    must(checks, &kill_rule(sender, target, receiver))
-}
-
-// Checks that a process may write another one by its present label, where that is not the label of its number.
-fn mac_write_present(
-    sender: &Caller<'_>,
-    checks: &mut Checks,
-    target: &Pid,
-    receiver: &Proc,
-) -> Result<(), Stop>
-    ensures { GoesOn checks.old (λ rest. writes_present sender.now.process target.now receiver.now (rest tt)) result checks.new }
-{
     let present = &receiver.creds.label;
-    if mac_write_ok(present, &target.label) {
-        return Ok(());
-    }
-    must(checks, &mac_write(sender, target, present))
+    let is_other = !mac_write_ok(present, &target.label);
+    must_if(is_other, checks, &mac_write(sender, target, present))?;
+    must(checks, &kill_rule(sender, target, receiver))
 }
 
 // The check whether a process may write another one, by a label.

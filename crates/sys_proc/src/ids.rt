@@ -12,15 +12,10 @@ use crate::checking::check_of_caller;
 use crate::id_kind::IdKind;
 use chk_rules::{Checks, Stop, must, prefer};
 use kern_model::{Check, Gid, Pid, Uid};
-use sys_lookup::{Caller, Effect, Shared};
+use sys_lookup::{CallResult, Caller, Effect, Shared};
 
 /// `setuid`: the caller gets a user, as its real, effective and saved one where it may, and else as its effective one.
-pub fn setuid(
-    shared: &mut Shared,
-    checks: &mut Checks,
-    who: &Pid,
-    user: Uid,
-) -> Result<Effect, Stop>
+pub fn setuid(shared: &mut Shared, checks: &mut Checks, who: &Pid, user: Uid) -> CallResult
     requires living { IsSome (map.get shared.old.procs who.now) }
     ensures { PlaysRow shared.old checks.old (setuid_row shared.old who.now (process_at shared.old who.now) user) result shared.new checks.new }
 {
@@ -28,12 +23,7 @@ pub fn setuid(
 }
 
 /// `setgid`: the caller gets a group, as its real, effective and saved one where it may, and else as its effective one.
-pub fn setgid(
-    shared: &mut Shared,
-    checks: &mut Checks,
-    who: &Pid,
-    group: Gid,
-) -> Result<Effect, Stop>
+pub fn setgid(shared: &mut Shared, checks: &mut Checks, who: &Pid, group: Gid) -> CallResult
     requires living { IsSome (map.get shared.old.procs who.now) }
     ensures { PlaysRow shared.old checks.old (setgid_row shared.old who.now (process_at shared.old who.now) group) result shared.new checks.new }
 {
@@ -41,13 +31,7 @@ pub fn setgid(
 }
 
 // The caller gets an id, as its real, effective and saved one where it may, and else as its effective one.
-fn set_id(
-    shared: &mut Shared,
-    checks: &mut Checks,
-    who: &Pid,
-    kind: IdKind,
-    id: u32,
-) -> Result<Effect, Stop>
+fn set_id(shared: &mut Shared, checks: &mut Checks, who: &Pid, kind: IdKind, id: u32) -> CallResult
     requires living { IsSome (map.get shared.old.procs who.now) }
     ensures { PlaysRow shared.old checks.old (set_id_row kind shared.old who.now (process_at shared.old who.now) id) result shared.new checks.new }
 {

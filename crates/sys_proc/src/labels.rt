@@ -3,26 +3,20 @@ ghost use Rattle.std.specs.Prelude.{◌≡◌, IsSome};
 ghost use Rattle.std.specs.FinMap as map;
 ghost use Rattle.kern_model.specs.ProcessRows.{asks_own_label, mac_set_proc_row};
 ghost use Rattle.kern_model.specs.Rules.{mac_subject};
-ghost use Rattle.kern_model.specs.State.{process_at};
 ghost use Rattle.chk_rules.specs.RowSteps.{GoesOn};
-ghost use Rattle.sys_lookup.specs.PlaysRow.{PlaysRow};
+ghost use Rattle.sys_lookup.specs.PlaysRow.{PlaysCall};
 
 use crate::changing::{CredsChange, change_creds};
 use crate::checking::check_of_caller;
 use chk_rules::{Checks, Stop, mac_write_ok, must};
 use kern_model::{Answer, Check, CheckName, Pid, Rec};
 use lab_lattice::Label;
-use sys_lookup::{Caller, Effect, Shared};
+use sys_lookup::{CallResult, Caller, Effect, Shared};
 
 /// `mac_set_proc`: the caller gets a label. To get another one than it has takes the capability.
-pub fn mac_set_proc(
-    shared: &mut Shared,
-    checks: &mut Checks,
-    who: &Pid,
-    label: Label,
-) -> Result<Effect, Stop>
+pub fn mac_set_proc(shared: &mut Shared, checks: &mut Checks, who: &Pid, label: Label) -> CallResult
     requires living { IsSome (map.get shared.old.procs who.now) }
-    ensures { PlaysRow shared.old checks.old (mac_set_proc_row shared.old who.now (process_at shared.old who.now) label) result shared.new checks.new }
+    ensures { PlaysCall shared.old who.now checks.old (λ s who p. mac_set_proc_row s who p label) result shared.new checks.new }
 {
     let caller = Caller::new(shared, who);
     may_get(&caller, checks, who, &label)?;

@@ -10,15 +10,12 @@ ghost use Rattle.sys_lookup.specs.StepOn.{StepOn};
 
 use chk_rules::{Checks, Stop};
 use kern_model::{Answer, Attr, Gid, Path, Pid, Place, Rec, Uid};
-use sys_lookup::{Caller, Effect, Metadata, PathArgument, Shared, sets_group, sets_user};
+use sys_lookup::{
+    CallResult, Caller, Effect, Metadata, PathArgument, Shared, sets_group, sets_user,
+};
 
 /// `exec`: the caller takes on the credentials that a program gives.
-pub fn exec(
-    shared: &mut Shared,
-    checks: &mut Checks,
-    who: &Pid,
-    path: &Path,
-) -> Result<Effect, Stop>
+pub fn exec(shared: &mut Shared, checks: &mut Checks, who: &Pid, path: &Path) -> CallResult
     requires living { IsSome (map.get shared.old.procs who.now) }
     ensures { PlaysRow shared.old checks.old (exec_row shared.old who.now (process_at shared.old who.now) path.now) result shared.new checks.new }
 {
@@ -68,20 +65,12 @@ fn run(shared: &mut Shared, who: &Pid, program: &Metadata) -> Effect
 fn user_of(attr: &Attr) -> Option<Uid>
     ensures { result ≡ cond (mode_sets_user attr.now.mode) (Some attr.now.owner) None }
 {
-    if sets_user(attr.mode) {
-        Some(attr.owner)
-    } else {
-        None
-    }
+    sets_user(attr.mode).then_some(attr.owner)
 }
 
 // The group that a program gives, if its mode sets one.
 fn group_of(attr: &Attr) -> Option<Gid>
     ensures { result ≡ cond (mode_sets_group attr.now.mode) (Some attr.now.group) None }
 {
-    if sets_group(attr.mode) {
-        Some(attr.group)
-    } else {
-        None
-    }
+    sets_group(attr.mode).then_some(attr.group)
 }

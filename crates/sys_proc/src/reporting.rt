@@ -5,22 +5,22 @@ ghost use Rattle.kern_model.specs.ProcessRows.{reports};
 ghost use Rattle.kern_model.specs.State.{State};
 ghost use Rattle.kern_model.specs.Table.{row};
 ghost use Rattle.chk_rules.specs.CheckLog.{CheckLog};
+ghost use Rattle.sys_lookup.specs.CallRows.{LeavesNothingOf};
 ghost use Rattle.sys_lookup.specs.Memory.{takes_no_memory};
-ghost use Rattle.sys_lookup.specs.PlaysRow.{LeavesNothing, PlaysRow};
+ghost use Rattle.sys_lookup.specs.PlaysRow.{PlaysRow};
 ghost use Rattle.sys_proc.specs.Playing.{is_own_call};
 
-use chk_rules::Stop;
 use kern_model::{Answer, Call, NoMemory, Pid};
 use proc_creds::copy_ids;
-use sys_lookup::{Caller, Effect};
+use sys_lookup::{CallResult, Caller, Effect};
 
 /// `getpid`, `getppid`, `getids`, `cap_get_proc` and `mac_get_proc`: what the caller is. Of these only `getids` takes memory.
 #[tactic(auto, using(crate::proofs::OwnLemmas::own_names))]
-pub fn report(caller: &Caller<'_>, who: &Pid, call: &Call) -> Result<Effect, Stop>
+pub fn report(caller: &Caller<'_>, who: &Pid, call: &Call) -> CallResult
     requires { is_own_call call.now ≡ true }
     ensures played { (s : State) (log : CheckLog) → PlaysRow s log (row s who.now caller.now.process call.now) result s log }
     ensures names { has_names call.now ≡ true }
-    ensures nothing { takes_no_memory call.now ≡ true → LeavesNothing result }
+    ensures nothing { LeavesNothingOf call.now result }
 {
     let answer = own_answer(caller, who, call)?;
     Ok(Effect::answers(answer))

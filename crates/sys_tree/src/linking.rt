@@ -15,7 +15,7 @@ ghost use Rattle.sys_lookup.specs.Walks.{IsEntry};
 use chk_rules::{Checks, Stop, refuse_if};
 use kern_model::limits::MAX_LINKS;
 use kern_model::{Errno, Oid, Path, Pid, Place};
-use sys_lookup::{Caller, Effect, PathArgument, Shared, Spot};
+use sys_lookup::{CallResult, Caller, Effect, PathArgument, Shared, Spot};
 
 /// `link`: an object that is no directory gets one more name.
 pub fn link(
@@ -24,7 +24,7 @@ pub fn link(
     who: &Pid,
     path: &Path,
     to: &Path,
-) -> Result<Effect, Stop>
+) -> CallResult
     requires valid { ∥ IsValid shared.old ∥₁ }
     requires living { IsSome (map.get shared.old.procs who.now) }
     ensures played { PlaysCall shared.old who.now checks.old (λ s who p. link_row s who p path.now to.now) result shared.new checks.new }

@@ -6,9 +6,9 @@ ghost use Rattle.kern_model.specs.TreeRows.{mkdir_row};
 ghost use Rattle.kern_model.specs.Valid.{IsValid};
 ghost use Rattle.sys_lookup.specs.PlaysRow.{PlaysCall};
 
-use chk_rules::{Checks, Stop};
+use chk_rules::Checks;
 use kern_model::{Body, Mode, Path, Pid};
-use sys_lookup::{Effect, NewObject, Shared, make};
+use sys_lookup::{CallResult, NewObject, Shared, make};
 
 /// `mkdir`: a directory is made where nothing has the name.
 pub fn mkdir(
@@ -17,7 +17,7 @@ pub fn mkdir(
     who: &Pid,
     path: &Path,
     mode: Mode,
-) -> Result<Effect, Stop>
+) -> CallResult
     requires valid { ∥ IsValid shared.old ∥₁ }
     requires living { IsSome (map.get shared.old.procs who.now) }
     ensures played { PlaysCall shared.old who.now checks.old (λ s who p. mkdir_row s who p path.now mode) result shared.new checks.new }

@@ -2,10 +2,8 @@
 ghost use Rattle.std.specs.Prelude.{◌≡◌, IsSome, true};
 ghost use Rattle.std.specs.FinMap as map;
 ghost use Rattle.kern_model.specs.Arguments.{has_names};
-ghost use Rattle.kern_model.specs.State.{process_at};
-ghost use Rattle.kern_model.specs.Table.{row};
 ghost use Rattle.kern_model.specs.Valid.{IsValid};
-ghost use Rattle.sys_lookup.specs.PlaysRow.{PlaysRow};
+ghost use Rattle.sys_lookup.specs.CallRows.{PlaysRowOf};
 ghost use Rattle.sys_tree.specs.Playing.{is_tree_call};
 
 use crate::linking::link;
@@ -14,23 +12,18 @@ use crate::reading::{readdir, stat};
 use crate::removing::{rmdir, unlink};
 use crate::renaming::rename;
 use crate::standing::chdir;
-use chk_rules::{Checks, Stop};
+use chk_rules::Checks;
 use kern_model::{Call, Pid};
-use sys_lookup::{Caller, Effect, Shared};
+use sys_lookup::{CallResult, Caller, Shared};
 
 /// Plays a call of a living process on directories and names.
 #[inline(never)]
 #[tactic(auto, unfolding(kern_model::specs::Arguments::has_names))]
-pub fn play(
-    shared: &mut Shared,
-    checks: &mut Checks,
-    who: &Pid,
-    call: &Call,
-) -> Result<Effect, Stop>
+pub fn play(shared: &mut Shared, checks: &mut Checks, who: &Pid, call: &Call) -> CallResult
     requires call { is_tree_call call.now ≡ true }
     requires valid { ∥ IsValid shared.old ∥₁ }
     requires living { IsSome (map.get shared.old.procs who.now) }
-    ensures played { PlaysRow shared.old checks.old (row shared.old who.now (process_at shared.old who.now) call.now) result shared.new checks.new }
+    ensures played { PlaysRowOf shared.old who.now call.now checks.old result shared.new checks.new }
     ensures names { has_names call.now ≡ true }
 {
     match call {

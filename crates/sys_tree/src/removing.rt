@@ -12,15 +12,10 @@ ghost use Rattle.sys_tree.specs.Entries.{IsReadBy, entry_taken};
 use chk_rules::{Checks, Stop, refuse_if};
 use fs_dirs::Absent;
 use kern_model::{Errno, Oid, Path, Pid};
-use sys_lookup::{Caller, Effect, LastName, Metadata, PathArgument, Shared};
+use sys_lookup::{CallResult, Caller, Effect, LastName, Metadata, PathArgument, Shared};
 
 /// `rmdir`: the entry of an empty directory is taken away.
-pub fn rmdir(
-    shared: &mut Shared,
-    checks: &mut Checks,
-    who: &Pid,
-    path: &Path,
-) -> Result<Effect, Stop>
+pub fn rmdir(shared: &mut Shared, checks: &mut Checks, who: &Pid, path: &Path) -> CallResult
     requires living { IsSome (map.get shared.old.procs who.now) }
     ensures { PlaysCall shared.old who.now checks.old (λ s who p. rmdir_row s who p path.now) result shared.new checks.new }
 {
@@ -32,12 +27,7 @@ pub fn rmdir(
 }
 
 /// `unlink`: an entry of an object that is no directory is taken away.
-pub fn unlink(
-    shared: &mut Shared,
-    checks: &mut Checks,
-    who: &Pid,
-    path: &Path,
-) -> Result<Effect, Stop>
+pub fn unlink(shared: &mut Shared, checks: &mut Checks, who: &Pid, path: &Path) -> CallResult
     requires living { IsSome (map.get shared.old.procs who.now) }
     ensures { PlaysCall shared.old who.now checks.old (λ s who p. unlink_row s who p path.now) result shared.new checks.new }
 {

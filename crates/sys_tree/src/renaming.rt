@@ -14,7 +14,7 @@ use crate::removing::old_entry;
 use chk_rules::{Checks, Stop, refuse_if};
 use fs_dirs::MoveError;
 use kern_model::{Errno, Oid, Path, Pid};
-use sys_lookup::{Caller, Effect, LastName, Metadata, PathArgument, Shared};
+use sys_lookup::{CallResult, Caller, Effect, LastName, Metadata, PathArgument, Shared};
 
 /// `rename`: an entry moves to another name, in place of what is there.
 pub fn rename(
@@ -23,7 +23,7 @@ pub fn rename(
     who: &Pid,
     path: &Path,
     to: &Path,
-) -> Result<Effect, Stop>
+) -> CallResult
     requires living { IsSome (map.get shared.old.procs who.now) }
     ensures played { PlaysCall shared.old who.now checks.old (λ s who p. rename_row s who p path.now to.now) result shared.new checks.new }
     ensures names { are_names to.now ≡ true }
@@ -104,7 +104,7 @@ fn move_entry(
     name: &LastName<'_>,
     into: &Oid,
     new: &LastName<'_>,
-) -> Result<Effect, Stop>
+) -> CallResult
     requires into { IsDir shared.old.objects into.now }
     requires there { IsSome (look shared.old dir.now name.now) }
     ensures { PlaysMove shared.old dir.now name.now into.now new.now result shared.new }

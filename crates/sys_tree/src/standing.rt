@@ -5,17 +5,12 @@ ghost use Rattle.kern_model.specs.State.{SetProcess, changed, process_at};
 ghost use Rattle.kern_model.specs.TreeRows.{chdir_row};
 ghost use Rattle.sys_lookup.specs.PlaysRow.{PlaysCall};
 
-use chk_rules::{Checks, Stop};
+use chk_rules::Checks;
 use kern_model::{Oid, Path, Pid};
-use sys_lookup::{Caller, Effect, PathArgument, Shared};
+use sys_lookup::{CallResult, Caller, Effect, PathArgument, Shared};
 
 /// `chdir`: a directory becomes the caller's current one.
-pub fn chdir(
-    shared: &mut Shared,
-    checks: &mut Checks,
-    who: &Pid,
-    path: &Path,
-) -> Result<Effect, Stop>
+pub fn chdir(shared: &mut Shared, checks: &mut Checks, who: &Pid, path: &Path) -> CallResult
     requires living { IsSome (map.get shared.old.procs who.now) }
     ensures { PlaysCall shared.old who.now checks.old (λ s who p. chdir_row s who p path.now) result shared.new checks.new }
 {

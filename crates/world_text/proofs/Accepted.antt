@@ -35,7 +35,7 @@ use Rattle.kern_model.specs.declared.world.WorldObject.{WorldObject}
 use Rattle.kern_model.specs.declared.world.WorldProc.{WorldProc}
 use Rattle.kern_model.specs.Kinds.{kind_of, bytes_of, is_dir, is_file, is_mode}
 use Rattle.kern_model.specs.Rules.{same_label}
-use Rattle.kern_model.specs.World.{IsWorld, IsWorldObject, IsWorldProc, IsPlaced, ArePlaced, given, parent_names, objects_at, procs_at, same_names}
+use Rattle.kern_model.specs.World.{IsWorld, IsWorldObject, IsWorldProc, IsPlaced, ArePlaced, object_with_path, parent_names, objects_at, procs_at, same_names}
 use Rattle.line_text.specs.Reading.{path_of}
 use Rattle.line_text.specs.declared.fault.LineFault.{LineFault}
 use Rattle.line_text.specs.declared.fault.LineFault.TheVariants.{Syntax, UnknownName}
@@ -234,17 +234,17 @@ first_is o (n ∷ ns) e parent root = absurd (cc)
 
 -- an object that passes the tests may come after others of which the first is the root
 placed_is : (first : WorldObject) (others : List WorldObject) (o : WorldObject) (names : List Name) → o.path.names ≡ names → first.path.names ≡ []
-    → is_some (given (first ∷ others) names) ≡ false → not (is_root names || is_directory (directory_of (first ∷ others) names)) ≡ false
+    → is_some (object_with_path (first ∷ others) names) ≡ false → not (is_root names || is_directory (directory_of (first ∷ others) names)) ≡ false
     → not (is_above o.label (directory_of (first ∷ others) names)) ≡ false → IsPlaced (first ∷ others) o
-placed_is first others o [] e root new parent order = absurd (both_ways _ new (ap (λ ns. is_some (cond (same_names ns []) (Some first) (given others []))) root))
-placed_is first others o (n ∷ ns) e root new parent order = by_parent (given (first ∷ others) (parent_names (n ∷ ns))) refl (not-false _ parent) (not-false _ order)
+placed_is first others o [] e root new parent order = absurd (both_ways _ new (ap (λ ns. is_some (cond (same_names ns []) (Some first) (object_with_path others []))) root))
+placed_is first others o (n ∷ ns) e root new parent order = by_parent (object_with_path (first ∷ others) (parent_names (n ∷ ns))) refl (not-false _ parent) (not-false _ order)
   where
-    by_parent : (p : Option WorldObject) → given (first ∷ others) (parent_names (n ∷ ns)) ≡ p → is_directory p ≡ true → is_above o.label p ≡ true → IsPlaced (first ∷ others) o
+    by_parent : (p : Option WorldObject) → object_with_path (first ∷ others) (parent_names (n ∷ ns)) ≡ p → is_directory p ≡ true → is_above o.label p ≡ true → IsPlaced (first ∷ others) o
     by_parent None is dir above = absurd (cc)
     by_parent (Some p) is dir above = record {
-      new = ap (given (first ∷ others)) e ∙ none_is _ new;
+      new = ap (object_with_path (first ∷ others)) e ∙ none_is _ new;
       parent = p;
-      parent_given = ap (λ ns. given (first ∷ others) (parent_names ns)) e ∙ is;
+      parent_given = ap (λ ns. object_with_path (first ∷ others) (parent_names ns)) e ∙ is;
       parent_dir = dir_body p.body dir;
       order = above;
     }
@@ -253,7 +253,7 @@ placed_more : (before others : List WorldObject) (o : WorldObject) → ArePlaced
 placed_more before [] o all placed = (subst (λ os. IsPlaced os o) (append-nil before) placed, tt)
 placed_more before (x ∷ xs) o all placed = (all.0, placed_more (before ++ x ∷ []) xs o all.1 (subst (λ os. IsPlaced os o) (sym (append_assoc before (x ∷ []) xs)) placed))
 
-rooted_more : (objects : List WorldObject) (o : WorldObject) → AreRooted objects → is_some (given objects o.path.names) ≡ false
+rooted_more : (objects : List WorldObject) (o : WorldObject) → AreRooted objects → is_some (object_with_path objects o.path.names) ≡ false
     → not (is_root o.path.names || is_directory (directory_of objects o.path.names)) ≡ false
     → (is_root o.path.names && not (is_dir (kind_of o.body) && dominates bottom o.label)) ≡ false
     → not (is_above o.label (directory_of objects o.path.names)) ≡ false → AreRooted (objects ++ o ∷ [])

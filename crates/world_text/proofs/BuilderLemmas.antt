@@ -21,7 +21,7 @@ use Rattle.lab_lattice.proofs.Labels.{dominates_itself, dominates_both, label_cm
 use Rattle.kern_model.specs.declared.world.WorldObject.{WorldObject}
 use Rattle.kern_model.specs.declared.world.WorldProc.{WorldProc}
 use Rattle.kern_model.specs.Rules.{same_label}
-use Rattle.kern_model.specs.World.{same_names, parent_names, given, objects_at, procs_at}
+use Rattle.kern_model.specs.World.{same_names, parent_names, object_with_path, objects_at, procs_at}
 use Rattle.world_text.specs.declared.builder.PathEntry.{PathEntry}
 use Rattle.world_text.specs.Placing.{directory_of, is_directory, is_above}
 use Rattle.world_text.specs.PathEntry.{path_entry_of, text_cmp, count_in, IsEntered, is_dir_entry, is_above_entry}
@@ -95,9 +95,9 @@ either : (b : Bool) (o : WorldObject) (x y : Option WorldObject) → cond b (Som
 either true o x y = refl
 either false o x y = refl
 
-given_after : (os : List WorldObject) (o : WorldObject) (q : List Name) → given (os ++ o ∷ []) q ≡ option_or (given os q) (given (o ∷ []) q)
+given_after : (os : List WorldObject) (o : WorldObject) (q : List Name) → object_with_path (os ++ o ∷ []) q ≡ option_or (object_with_path os q) (object_with_path (o ∷ []) q)
 given_after [] o q = refl
-given_after (p ∷ ps) o q = ap (λ w. cond (same_names p.path.names q) (Some p) w) (given_after ps o q) ∙ either (same_names p.path.names q) p (given ps q) (given (o ∷ []) q)
+given_after (p ∷ ps) o q = ap (λ w. cond (same_names p.path.names q) (Some p) w) (given_after ps o q) ∙ either (same_names p.path.names q) p (object_with_path ps q) (object_with_path (o ∷ []) q)
 
 or_none : (x : Option WorldObject) → option_or x None ≡ x
 or_none None = refl
@@ -110,23 +110,23 @@ entered old new o key s updates text is t = updates t ∙ (λ i. cond (is_at (te
 
 -- one more object has the entry at the text of its path, where there was none
 pub stands_more : (old new : BTreeMap (List ℕ) PathEntry) (objects more : List WorldObject) (o : WorldObject) → IsEntered old new o → more ≡ objects ++ o ∷ []
-    → list_all is_name o.path.names ≡ true → given objects o.path.names ≡ None
-    → ((q : List Name) → list_all is_name q ≡ true → get text_cmp old (path_text q) ≡ option_map path_entry_of (given objects q))
-    → (q : List Name) → list_all is_name q ≡ true → get text_cmp new (path_text q) ≡ option_map path_entry_of (given more q)
+    → list_all is_name o.path.names ≡ true → object_with_path objects o.path.names ≡ None
+    → ((q : List Name) → list_all is_name q ≡ true → get text_cmp old (path_text q) ≡ option_map path_entry_of (object_with_path objects q))
+    → (q : List Name) → list_all is_name q ≡ true → get text_cmp new (path_text q) ≡ option_map path_entry_of (object_with_path more q)
 stands_more old new objects more o updates grown named free before q h =
     updates (path_text q) ∙ ap (λ e. cond (is_eq (text_cmp (path_text o.path.names) (path_text q))) (Some (path_entry_of o)) e) (before q h)
-    ∙ ap (λ t. cond t (Some (path_entry_of o)) (option_map path_entry_of (given objects q))) (texts_tie o.path.names q named h)
-    ∙ by_test (same_names o.path.names q) refl ∙ sym (ap (option_map path_entry_of) (ap (λ (os : List WorldObject). given os q) grown ∙ given_after objects o q))
+    ∙ ap (λ t. cond t (Some (path_entry_of o)) (option_map path_entry_of (object_with_path objects q))) (texts_tie o.path.names q named h)
+    ∙ by_test (same_names o.path.names q) refl ∙ sym (ap (option_map path_entry_of) (ap (λ (os : List WorldObject). object_with_path os q) grown ∙ given_after objects o q))
   where
     by_test : (v : Bool) → same_names o.path.names q ≡ v
-        → cond (same_names o.path.names q) (Some (path_entry_of o)) (option_map path_entry_of (given objects q)) ≡ option_map path_entry_of (option_or (given objects q) (cond (same_names o.path.names q) (Some o) None))
+        → cond (same_names o.path.names q) (Some (path_entry_of o)) (option_map path_entry_of (object_with_path objects q)) ≡ option_map path_entry_of (option_or (object_with_path objects q) (cond (same_names o.path.names q) (Some o) None))
     by_test true e =
-        let none : given objects q ≡ None = ap (given objects) (sym (names_same o.path.names q e)) ∙ free in
-        ap (λ t. cond t (Some (path_entry_of o)) (option_map path_entry_of (given objects q))) e
+        let none : object_with_path objects q ≡ None = ap (object_with_path objects) (sym (names_same o.path.names q e)) ∙ free in
+        ap (λ t. cond t (Some (path_entry_of o)) (option_map path_entry_of (object_with_path objects q))) e
         ∙ sym (λ i. option_map path_entry_of (option_or (none i) (cond (e i) (Some o) None)))
     by_test false e =
-        ap (λ t. cond t (Some (path_entry_of o)) (option_map path_entry_of (given objects q))) e
-        ∙ sym (ap (λ t. option_map path_entry_of (option_or (given objects q) (cond t (Some o) None))) e ∙ ap (option_map path_entry_of) (or_none (given objects q)))
+        ap (λ t. cond t (Some (path_entry_of o)) (option_map path_entry_of (object_with_path objects q))) e
+        ∙ sym (ap (λ t. option_map path_entry_of (option_or (object_with_path objects q) (cond t (Some o) None))) e ∙ ap (option_map path_entry_of) (or_none (object_with_path objects q)))
 
 -- ---- directories
 
@@ -139,11 +139,11 @@ parent_taken n [] = refl
 parent_taken n (m ∷ ns) = ap (λ ps. n ∷ ps) (parent_taken m ns)
 
 -- the directory of names is what was given with all but the last
-pub directory_stands : (os : List WorldObject) (names : List Name) → 0 < length names → directory_of os names ≡ given os (take (length names - 1) names)
+pub directory_stands : (os : List WorldObject) (names : List Name) → 0 < length names → directory_of os names ≡ object_with_path os (take (length names - 1) names)
 directory_stands os [] some = absurd (omega arith)
 directory_stands os (n ∷ ns) some =
     let less : length ns ≡ suc (length ns) - 1 = omega arith in
-    ap (given os) (parent_taken n ns ∙ ap (λ k. take k (n ∷ ns)) less)
+    ap (object_with_path os) (parent_taken n ns ∙ ap (λ k. take k (n ∷ ns)) less)
 
 -- the entry of an object has its kind
 pub stands_as_dir : (o : Option WorldObject) → is_dir_entry (option_map path_entry_of o) ≡ is_directory o

@@ -18,7 +18,7 @@ use Rattle.kern_model.specs.declared.objects.Body.TheVariants as body
 use Rattle.kern_model.specs.declared.world.WorldObject.{WorldObject}
 use Rattle.kern_model.specs.declared.world.WorldProc.{WorldProc}
 use Rattle.kern_model.specs.Kinds.{is_dir, kind_of}
-use Rattle.kern_model.specs.World.{given, objects_at, procs_at}
+use Rattle.kern_model.specs.World.{object_with_path, objects_at, procs_at}
 use Rattle.line_text.specs.declared.fault.LineFault.{LineFault}
 use Rattle.line_text.specs.declared.fault.LineFault.TheVariants.{Syntax, Repeated, TooMany}
 use Rattle.world_text.specs.declared.expecting.Expecting.{Expecting}
@@ -96,7 +96,7 @@ bound_has format policy _ = malformed
 object_has : (w : PartialWorld) (o : WorldObject) → HasFaultOfWorld (parse_object w o)
 unfolding object_fault
 object_has w o =
-    first_has (is_some (given w.builder.objects o.path.names)) _ _ _ refl
+    first_has (is_some (object_with_path w.builder.objects o.path.names)) _ _ _ refl
     (first_has (not (is_root o.path.names || is_directory (directory_of w.builder.objects o.path.names))) _ _ _ refl
     (first_has (is_root o.path.names && not (is_dir (kind_of o.body) && dominates bottom o.label)) _ _ _ refl
     (first_has (not (is_above o.label (directory_of w.builder.objects o.path.names))) _ _ _ refl

@@ -9,7 +9,7 @@ use Rattle.kern_model.specs.declared.world.WorldObject.{WorldObject}
 use Rattle.kern_model.specs.declared.world.WorldProc.{WorldProc}
 use Rattle.kern_model.specs.Kinds.{kind_of}
 use Rattle.kern_model.specs.Kinds.{is_dir}
-use Rattle.kern_model.specs.World.{given, objects_at, procs_at}
+use Rattle.kern_model.specs.World.{object_with_path, objects_at, procs_at}
 use Rattle.line_text.specs.declared.fault.LineFault.{LineFault}
 use Rattle.line_text.specs.declared.fault.LineFault.TheVariants.{Repeated, NoParent, LabelOrder, RootLabel, TooMany}
 use Rattle.world_text.specs.declared.builder.PathEntry.{PathEntry}
@@ -30,7 +30,7 @@ wrong_root o = is_root o.path.names && not (is_dir (kind_of o.body) && dominates
 -- the first fault is found from the entry at the path of the object's directory
 pub fault_reported : (t : Tree) (o : WorldObject) (d : Option PathEntry) (repeated parent wrong above full : Bool)
     → d ≡ option_map path_entry_of (directory_of t.objects o.path.names)
-    → is_some (given t.objects o.path.names) ≡ repeated → (is_root o.path.names || is_dir_entry d) ≡ parent → wrong_root o ≡ wrong → is_above_entry o.label d ≡ above → nat_le MAX_OBJECTS (objects_at o.label t.objects) ≡ full
+    → is_some (object_with_path t.objects o.path.names) ≡ repeated → (is_root o.path.names || is_dir_entry d) ≡ parent → wrong_root o ≡ wrong → is_above_entry o.label d ≡ above → nat_le MAX_OBJECTS (objects_at o.label t.objects) ≡ full
     → first_fault repeated parent wrong above full ≡ object_fault t o
 unfolding object_fault
 fault_reported t o d repeated parent wrong above full dir e f g h k = sym (λ i. first_fault (e i) (has_parent i) (g i) (is_over i) (k i))
@@ -42,15 +42,15 @@ fault_reported t o d repeated parent wrong above full dir e f g h k = sym (λ i.
     is_over = sym (ap (is_above_entry o.label) dir ∙ stands_above o.label (directory_of t.objects o.path.names)) ∙ h
 
 pub record HasPlace (t : Tree) (o : WorldObject) : Type 0 where
-  pub free : given t.objects o.path.names ≡ None
+  pub free : object_with_path t.objects o.path.names ≡ None
   pub room : objects_at o.label t.objects < MAX_OBJECTS
 
 -- an object without a fault has a path at which nothing was given, and there is room for it
 pub without_fault : (t : Tree) (o : WorldObject) → object_fault t o ≡ None → HasPlace t o
 unfolding object_fault
-without_fault t o e = by_tests (given t.objects o.path.names) (is_root o.path.names || is_directory (directory_of t.objects o.path.names)) (wrong_root o) (is_above o.label (directory_of t.objects o.path.names)) (nat_le MAX_OBJECTS (objects_at o.label t.objects)) refl refl e
+without_fault t o e = by_tests (object_with_path t.objects o.path.names) (is_root o.path.names || is_directory (directory_of t.objects o.path.names)) (wrong_root o) (is_above o.label (directory_of t.objects o.path.names)) (nat_le MAX_OBJECTS (objects_at o.label t.objects)) refl refl e
   where
-    by_tests : (g : Option WorldObject) (parent wrong above full : Bool) → given t.objects o.path.names ≡ g → nat_le MAX_OBJECTS (objects_at o.label t.objects) ≡ full → first_fault (is_some g) parent wrong above full ≡ None → HasPlace t o
+    by_tests : (g : Option WorldObject) (parent wrong above full : Bool) → object_with_path t.objects o.path.names ≡ g → nat_le MAX_OBJECTS (objects_at o.label t.objects) ≡ full → first_fault (is_some g) parent wrong above full ≡ None → HasPlace t o
     by_tests (Some x) parent wrong above full f k e = absurd (cc)
     by_tests None false wrong above full f k e = absurd (cc)
     by_tests None true true above full f k e = absurd (cc)

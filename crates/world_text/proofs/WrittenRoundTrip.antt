@@ -38,7 +38,7 @@ use Rattle.kern_model.specs.Named.{named}
 use Rattle.kern_model.specs.Kinds.{kind_of}
 use Rattle.kern_model.specs.Kinds.{is_dir, is_file}
 use Rattle.kern_model.specs.Rules.{same_label}
-use Rattle.kern_model.specs.World.{IsPlaced, ArePlaced, given, parent_names, objects_at, procs_at, same_names}
+use Rattle.kern_model.specs.World.{IsPlaced, ArePlaced, object_with_path, parent_names, objects_at, procs_at, same_names}
 use Rattle.line_text.specs.Ranges.{IsNumber}
 use Rattle.world_text.specs.declared.expecting.Expecting.{Expecting}
 use Rattle.world_text.specs.declared.expecting.Expecting.TheVariants as at
@@ -326,11 +326,11 @@ root_adds format policy bound o no_names dir lowest =
 below_root : (first : WorldObject) (rest : List WorldObject) (o : WorldObject) (p : IsPlaced (first ∷ rest) o) (names : List Name) → first.path.names ≡ [] → o.path.names ≡ names
     → (is_root o.path.names ≡ false) × (directory_of (first ∷ rest) o.path.names ≡ Some p.parent)
 below_root first rest o p [] root e =
-    let first_given : given (first ∷ rest) [] ≡ Some first = ap (λ ns. cond (same_names ns []) (Some first) (given rest [])) root in
-    let new = sym (ap (given (first ∷ rest)) e) ∙ p.new in
+    let first_given : object_with_path (first ∷ rest) [] ≡ Some first = ap (λ ns. cond (same_names ns []) (Some first) (object_with_path rest [])) root in
+    let new = sym (ap (object_with_path (first ∷ rest)) e) ∙ p.new in
     absurd (cc)
 below_root first rest o p (n ∷ ns) root e =
-    (ap is_root e, ap (directory_of (first ∷ rest)) e ∙ sym (ap (λ ns. given (first ∷ rest) (parent_names ns)) e) ∙ p.parent_given)
+    (ap is_root e, ap (directory_of (first ∷ rest)) e ∙ sym (ap (λ ns. object_with_path (first ∷ rest) (parent_names ns)) e) ∙ p.parent_given)
 
 placed_adds : (format : Format) (policy : PolicyNames) (bound : CapSet) (first : WorldObject) (rest : List WorldObject) (o : WorldObject) → first.path.names ≡ [] → IsPlaced (first ∷ rest) o
     → nat_le MAX_OBJECTS (objects_at o.label (first ∷ rest)) ≡ false

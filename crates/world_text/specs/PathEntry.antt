@@ -12,7 +12,7 @@ use Rattle.kern_model.specs.declared.world.WorldObject.{WorldObject}
 use Rattle.kern_model.specs.Kinds.{kind_of}
 use Rattle.kern_model.specs.Kinds.{is_dir}
 use Rattle.kern_model.specs.Rules.{same_label}
-use Rattle.kern_model.specs.World.{given, objects_at, procs_at}
+use Rattle.kern_model.specs.World.{object_with_path, objects_at, procs_at}
 use Rattle.world_text.specs.declared.builder.PathEntry.{PathEntry}
 use Rattle.world_text.specs.Tree.{Tree}
 use Rattle.world_text.specs.Written.{path_text}
@@ -39,7 +39,7 @@ IsEntered old new o = (t : List ℕ) → get text_cmp new t ≡ cond (is_at (tex
 
 -- the index says at the text of each path what was given, and the counts how many objects and processes have a label
 pub record IsIndexed (t : Tree) (index : BTreeMap (List ℕ) PathEntry) (object_counts proc_counts : BTreeMap Label ℕ) : Type 0 where
-  pub stands : (q : List Name) → list_all is_name q ≡ true → get text_cmp index (path_text q) ≡ option_map path_entry_of (given t.objects q)
+  pub stands : (q : List Name) → list_all is_name q ≡ true → get text_cmp index (path_text q) ≡ option_map path_entry_of (object_with_path t.objects q)
   pub objects_are : (l : Label) → count_in object_counts l ≡ objects_at l t.objects
   pub procs_are : (l : Label) → count_in proc_counts l ≡ procs_at l t.procs
 

@@ -7,7 +7,7 @@ use Rattle.kern_model.specs.declared.world.WorldObject.{WorldObject}
 use Rattle.kern_model.specs.declared.world.WorldProc.{WorldProc}
 use Rattle.kern_model.specs.Kinds.{kind_of}
 use Rattle.kern_model.specs.Kinds.{is_dir}
-use Rattle.kern_model.specs.World.{given, parent_names, objects_at, procs_at}
+use Rattle.kern_model.specs.World.{object_with_path, parent_names, objects_at, procs_at}
 use Rattle.line_text.specs.declared.fault.LineFault.{LineFault}
 use Rattle.line_text.specs.declared.fault.LineFault.TheVariants.{Repeated, NoParent, LabelOrder, RootLabel, TooMany}
 use Rattle.world_text.specs.Tree.{Tree}
@@ -25,7 +25,7 @@ is_above label (Some o) = dominates label o.label
 -- what was given as the directory of a path; the root has none
 abbrev pub directory_of : List WorldObject → List Name → Option WorldObject
 directory_of os [] = None
-directory_of os (n ∷ ns) = given os (parent_names (n ∷ ns))
+directory_of os (n ∷ ns) = object_with_path os (parent_names (n ∷ ns))
 
 abbrev pub is_root : List Name → Bool
 is_root [] = true
@@ -35,7 +35,7 @@ is_root (n ∷ ns) = false
 -- no directory of the bottom label, its label does not dominate the directory's, or no number of its label is left
 unfoldable pub object_fault : Tree → WorldObject → Option LineFault
 object_fault t o =
-    cond (is_some (given t.objects o.path.names)) (Some Repeated)
+    cond (is_some (object_with_path t.objects o.path.names)) (Some Repeated)
     (cond (not (is_root o.path.names || is_directory (directory_of t.objects o.path.names))) (Some NoParent)
     (cond (is_root o.path.names && not (is_dir (kind_of o.body) && dominates bottom o.label)) (Some RootLabel)
     (cond (not (is_above o.label (directory_of t.objects o.path.names))) (Some LabelOrder)

@@ -7,7 +7,7 @@ ghost use Rattle.lab_lattice.specs.Label.{Label, bottom, dominates};
 ghost use Rattle.kern_model.specs.declared.limits.TheConstants.{MAX_OBJECTS, MAX_PROCS};
 ghost use Rattle.kern_model.specs.Kinds.{kind_of, is_dir};
 ghost use Rattle.kern_model.specs.Rules.{same_label};
-ghost use Rattle.kern_model.specs.World.{given, objects_at, procs_at};
+ghost use Rattle.kern_model.specs.World.{object_with_path, objects_at, procs_at};
 ghost use Rattle.world_text.specs.PathEntry.{path_entry_of, count_in, IsCounted, IsEntered, is_dir_entry, is_above_entry};
 ghost use Rattle.world_text.specs.Placing.{directory_of, is_root, object_fault, process_fault};
 ghost use Rattle.world_text.specs.Written.{path_text};
@@ -190,7 +190,7 @@ impl WorldBuilder {
     // What stands at a path of these names.
     fn entry_at(&self, alloc: Global, names: &[Name]) -> Result<Option<PathEntry>, NoMemory>
         requires { list_all is_name names.now ≡ true }
-        ensures { IfOk result (λ entry. entry ≡ option_map path_entry_of (given self.now.objects names.now)) }
+        ensures { IfOk result (λ entry. entry ≡ option_map path_entry_of (object_with_path self.now.objects names.now)) }
     {
         let key = key_of(alloc, names)?;
         Ok(self.index.get(&key).copied())
@@ -198,7 +198,7 @@ impl WorldBuilder {
 
     // Whether an object with this path was given.
     fn is_given(&self, alloc: Global, path: &Path) -> Result<bool, NoMemory>
-        ensures { IfOk result (λ given_before. given_before ≡ is_some (given self.now.objects path.now.names)) }
+        ensures { IfOk result (λ given_before. given_before ≡ is_some (object_with_path self.now.objects path.now.names)) }
     {
         let entry = self.entry_at(alloc, path.components())?;
         Ok(entry.is_some())

@@ -13,7 +13,7 @@ use Rattle.kern_model.specs.declared.numbers.Oid.{Oid}
 use Rattle.kern_model.specs.declared.numbers.Pid.{Pid}
 use Rattle.kern_model.specs.declared.objects.Kind.TheVariants as kind
 use Rattle.kern_model.specs.declared.objects.Object.{Object}
-use Rattle.kern_model.specs.Descriptors.{Descriptor, closing, let_go, is_let_go, is_drained, emptied, any_open}
+use Rattle.kern_model.specs.Descriptors.{Descriptor, closing, let_go, is_let_go, is_drained, truncation, any_open}
 use Rattle.kern_model.specs.Keys.{pid_cmp, did_cmp, same_oid, same_pid}
 use Rattle.kern_model.specs.Kinds.{is_fifo}
 use Rattle.kern_model.specs.State.{State, Process, Description, Change, SetObject, SetProcess, DropDescription, changed, changed_by, object_at, stub_object}
@@ -36,14 +36,14 @@ module _ (s : State) (goes : Descriptor → Bool) where
   going = flat_map (let_go s goes)
 
   -- one description goes, with the bytes of an object or without
-  dropped : (did : Did) (id : Oid) (b : Bool) (t : State) → (changed_by t (DropDescription did ∷ cond b (emptied s id ∷ []) [])).descriptions ≡ table.remove t.descriptions did
+  dropped : (did : Did) (id : Oid) (b : Bool) (t : State) → (changed_by t (DropDescription did ∷ cond b (truncation s id ∷ []) [])).descriptions ≡ table.remove t.descriptions did
   dropped did id true t = refl
   dropped did id false t = refl
 
   -- other descriptions stay
   one_stays : (did : Did) (e : Did × Description) → (is_let_go s goes e.0 ≡ true → eq_by_cmp did_cmp did e.0 ≡ false) → (t : State) → table.get (changed_by t (let_go s goes e)).descriptions did ≡ table.get t.descriptions did
   one_stays did e other t =
-      elim (is_let_go s goes e.0) as (λ b. is_let_go s goes e.0 ≡ b → table.get (changed_by t (cond b (DropDescription e.0 ∷ cond (is_drained s goes e.1.object) (emptied s e.1.object ∷ []) []) [])).descriptions did ≡ table.get t.descriptions did) [
+      elim (is_let_go s goes e.0) as (λ b. is_let_go s goes e.0 ≡ b → table.get (changed_by t (cond b (DropDescription e.0 ∷ cond (is_drained s goes e.1.object) (truncation s e.1.object ∷ []) []) [])).descriptions did ≡ table.get t.descriptions did) [
         | true ↦ λ gone. ap (λ m. table.get m did) (dropped e.0 e.1.object (is_drained s goes e.1.object) t) ∙ get-remove_other did_cmp_total t.descriptions e.0 did (other gone)
         | false ↦ λ _. refl
       ] refl
@@ -57,7 +57,7 @@ module _ (s : State) (goes : Descriptor → Bool) where
       ∙ one_stays did e (λ gone. false_from_ne_true _ (λ same. true≢false (sym gone ∙ ap (is_let_go s goes) (sym (same_key did_cmp_exact did e.0 same)) ∙ stays))) t
 
   -- what the changes of closing carry holds after those of any list of descriptions
-  going_preserves : (Of : State → Type 0) → ((did : Did) → Preserves Of (DropDescription did)) → ((id : Oid) → Preserves Of (emptied s id)) → (es : List (Did × Description)) (t : State) → Of t → Of (changed_by t (going es))
+  going_preserves : (Of : State → Type 0) → ((did : Did) → Preserves Of (DropDescription did)) → ((id : Oid) → Preserves Of (truncation s id)) → (es : List (Did × Description)) (t : State) → Of t → Of (changed_by t (going es))
   going_preserves Of drop empty es =
       preserved_over Of (going es)
       (all_each (λ (e : Did × Description). Unit {0}) (Preserves Of) (let_go s goes) (λ e _. let_go_each s (Preserves Of) goes e (λ _. (drop e.0, λ _. empty e.1.object))) es (all_always (λ (e : Did × Description). Unit {0}) (λ e. tt) es))
@@ -72,7 +72,7 @@ module _ (s : State) (goes : Descriptor → Bool) where
         | true ↦ λ same _.
             let on : did ≡ e.0 = same_key did_cmp_exact did e.0 same in
             let none : table.get after.descriptions did ≡ None =
-            ap (λ b. table.get (changed_by t (cond b (DropDescription e.0 ∷ cond (is_drained s goes e.1.object) (emptied s e.1.object ∷ []) []) [])).descriptions did) (ap (is_let_go s goes) (sym on) ∙ gone)
+            ap (λ b. table.get (changed_by t (cond b (DropDescription e.0 ∷ cond (is_drained s goes e.1.object) (truncation s e.1.object ∷ []) []) [])).descriptions did) (ap (is_let_go s goes) (sym on) ∙ gone)
             ∙ ap (λ m. table.get m did) (dropped e.0 e.1.object (is_drained s goes e.1.object) t) ∙ ap (table.get (table.remove t.descriptions e.0)) on ∙ get-remove_same did_cmp_total t.descriptions e.0 in
             going_preserves (λ u. table.get u.descriptions did ≡ None) (λ q u none_u. get-remove_none did_cmp_total u.descriptions q did none_u) (λ id u none_u. none_u) es after none
         | false ↦ λ other at_es. listed_goes did gone es after (one_stays did e (λ _. other) t ∙ at_es)
@@ -82,11 +82,11 @@ module _ (s : State) (goes : Descriptor → Bool) where
   abbrev IsEmptyAt : Oid → State → Type 0
   IsEmptyAt id t = (o : Object) → table.get t.objects id ≡ Some o → o.bytes ≡ []
 
-  set_empty : (id at : Oid) → Preserves (IsEmptyAt id) (emptied s at)
+  set_empty : (id at : Oid) → Preserves (IsEmptyAt id) (truncation s at)
   set_empty id at t h o e =
       each-insert oid_cmp_total oid_cmp_exact (λ (k : Oid) (x : Object). k ≡ id → x.bytes ≡ []) t.objects (λ k x is on. h x (ap (table.get t.objects) (sym on) ∙ is)) at (record (object_at s at) { bytes = [] }) (λ _. refl) id o e refl
 
-  now_empty : (id : Oid) (t : State) → IsEmptyAt id (changed t (emptied s id))
+  now_empty : (id : Oid) (t : State) → IsEmptyAt id (changed t (truncation s id))
   now_empty id t o e = ap (λ (x : Object). x.bytes) (some_same o (record (object_at s id) { bytes = [] }) (sym e ∙ get-insert_same oid_cmp_total t.objects id (record (object_at s id) { bytes = [] })))
 
   -- an object that is drained is empty once a description of it is let go
@@ -96,9 +96,9 @@ module _ (s : State) (goes : Descriptor → Bool) where
       subst (IsEmptyAt d.object) (sym (changed_by-append t (let_go s goes e) (going es)))
       (elim (eq_by_cmp did_cmp did e.0) as (λ b. eq_by_cmp did_cmp did e.0 ≡ b → cond b (Some e.1) (find did_cmp did es) ≡ Some d → IsEmptyAt d.object (changed_by (changed_by t (let_go s goes e)) (going es))) [
         | true ↦ λ same at_e.
-            let first : let_go s goes e ≡ DropDescription did ∷ emptied s d.object ∷ [] =
+            let first : let_go s goes e ≡ DropDescription did ∷ truncation s d.object ∷ [] =
             (λ i. let_go s goes (sym (same_key did_cmp_exact did e.0 same) i, some_same e.1 d at_e i))
-            ∙ (λ i. cond (gone i) (DropDescription did ∷ cond (drained i) (emptied s d.object ∷ []) []) []) in
+            ∙ (λ i. cond (gone i) (DropDescription did ∷ cond (drained i) (truncation s d.object ∷ []) []) []) in
             going_preserves (IsEmptyAt d.object) (λ q u h. h) (set_empty d.object) es (changed_by t (let_go s goes e)) (subst (λ cs. IsEmptyAt d.object (changed_by t cs)) (sym first) (now_empty d.object (changed t (DropDescription did))))
         | false ↦ λ _ at_es. listed_drains did d gone drained es (changed_by t (let_go s goes e)) at_es
       ] refl at)

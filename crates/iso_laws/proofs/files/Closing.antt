@@ -12,7 +12,7 @@ use Rattle.kern_model.specs.declared.numbers.Did.{Did}
 use Rattle.kern_model.specs.declared.numbers.Oid.{Oid}
 use Rattle.kern_model.specs.declared.numbers.Pid.{Pid}
 use Rattle.kern_model.specs.declared.objects.Object.{Object}
-use Rattle.kern_model.specs.Descriptors.{Descriptor, descriptors, closing, let_go, is_let_go, is_drained, emptied}
+use Rattle.kern_model.specs.Descriptors.{Descriptor, descriptors, closing, let_go, is_let_go, is_drained, truncation}
 use Rattle.kern_model.specs.Isolation.{low, Kept}
 use Rattle.kern_model.specs.Keys.{did_cmp, same_oid, same_did}
 use Rattle.kern_model.specs.Kinds.{is_fifo, is_stream}
@@ -179,8 +179,8 @@ module _ (l : Label) (s : State) (kept : Kept l s) (valid : IsValid s) (goes : D
 
   shown_same : (e : Did × Description) → map (shown_change l s.top) (let_go s goes e) ≡ let_go s goes e
   shown_same e =
-      elim (is_let_go s goes e.0) as (λ b. map (shown_change l s.top) (cond b (DropDescription e.0 ∷ cond (is_drained s goes e.1.object) (emptied s e.1.object ∷ []) []) []) ≡ cond b (DropDescription e.0 ∷ cond (is_drained s goes e.1.object) (emptied s e.1.object ∷ []) []) []) [
-        | true ↦ elim (is_drained s goes e.1.object) as (λ c. map (shown_change l s.top) (DropDescription e.0 ∷ cond c (emptied s e.1.object ∷ []) []) ≡ DropDescription e.0 ∷ cond c (emptied s e.1.object ∷ []) []) [ true ↦ refl | false ↦ refl ]
+      elim (is_let_go s goes e.0) as (λ b. map (shown_change l s.top) (cond b (DropDescription e.0 ∷ cond (is_drained s goes e.1.object) (truncation s e.1.object ∷ []) []) []) ≡ cond b (DropDescription e.0 ∷ cond (is_drained s goes e.1.object) (truncation s e.1.object ∷ []) []) []) [
+        | true ↦ elim (is_drained s goes e.1.object) as (λ c. map (shown_change l s.top) (DropDescription e.0 ∷ cond c (truncation s e.1.object ∷ []) []) ≡ DropDescription e.0 ∷ cond c (truncation s e.1.object ∷ []) []) [ true ↦ refl | false ↦ refl ]
         | false ↦ refl
       ]
 

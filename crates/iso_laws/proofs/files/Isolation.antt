@@ -14,7 +14,7 @@ use Rattle.kern_model.specs.declared.numbers.Oid.{Oid}
 use Rattle.kern_model.specs.declared.numbers.Pid.{Pid}
 use Rattle.kern_model.specs.declared.objects.Object.{Object}
 use Rattle.kern_model.specs.Descriptors.{Opened, any_open, closing}
-use Rattle.kern_model.specs.FileRows.{pipe_row, make_pipe, make_pipe_after, piped, close_row, dup_row, fstat_row, lseek_row, seek_opened, moves, base_of, read_row, taking, write_row, putting, into_stream, into_file, place_in, open_object, moved}
+use Rattle.kern_model.specs.FileRows.{pipe_row, make_pipe, make_pipe_after, pipe_creation, close_row, dup_row, fstat_row, lseek_row, seek_opened, moves, base_of, read_row, taking, write_row, putting, into_stream, into_file, place_in, open_object, offset_change}
 use Rattle.kern_model.specs.Isolation.{low, Kept}
 use Rattle.kern_model.specs.Kinds.{is_stream}
 use Rattle.kern_model.specs.Row.{Row, Need}
@@ -80,7 +80,7 @@ module _ (l : Label) (s : State) (kept : Kept l s) (valid : IsValid s) (who : Pi
       (λ _.
       subst (λ r. SameInPart l s who p (make_pipe s who p) r) (λ i. make_pipe_after (sym (drawn_low l s p.label is_low) i) (sym same i) who p)
       (in_part_itself l s who p (make_pipe s who p)
-      (part_of_low l s.top (piped s who p) (is_low, (is_low, (is_low, (is_low, (is_low, (kept.procs who p is ∙ is_low, tt)))))))))))
+      (part_of_low l s.top (pipe_creation s who p) (is_low, (is_low, (is_low, (is_low, (is_low, (kept.procs who p is ∙ is_low, tt)))))))))))
 
   same_base : (f : Opened) → low l f.description.object.label ≡ true → (from : Whence) → base_of part_s f from ≡ base_of s f from
   same_base f h whence.Set = refl
@@ -94,7 +94,7 @@ module _ (l : Label) (s : State) (kept : Kept l s) (valid : IsValid s) (who : Pi
       (in_part_refuse l s who p errno.ESPIPE _ _ _ _ (λ i. is_stream (same i).kind)
       (λ _. subst (λ r. SameInPart l s who p (seek_opened s from offset f) r)
       (sym (λ i. moves f (pos (same_base f h from i) +ℤ offset) (length (same i).bytes)))
-      (in_part_itself l s who p (seek_opened s from offset f) (refl, part_of_low l s.top (moved f _ ∷ []) (low_did, tt))))))
+      (in_part_itself l s who p (seek_opened s from offset f) (refl, part_of_low l s.top (offset_change f _ ∷ []) (low_did, tt))))))
 
   and_same : (b x y : Bool) → (b ≡ true → x ≡ y) → (b && x) ≡ (b && y)
   and_same true x y h = h refl
@@ -121,14 +121,14 @@ module _ (l : Label) (s : State) (kept : Kept l s) (valid : IsValid s) (who : Pi
       (in_part_refuse l s who p errno.EAGAIN _ _ _ _ (same_again f h)
       (λ _. low_by_object l s kept valid who p is is_low id h (λ o. taking (is_stream o.kind) n f o)
       (each_commit_cond (AreVisible l s) (is_stream (open_object s f).kind) _ _ (part_of_low l s.top (SetObject id _ ∷ []) (h, tt))
-      (part_of_low l s.top (moved f _ ∷ []) (low_did, tt))))))))
+      (part_of_low l s.top (offset_change f _ ∷ []) (low_did, tt))))))))
 
   pub write_low : (fd : ℕ) (bytes : List ℕ) → SameInPart l s who p (write_row s who p fd bytes) (write_row part_s who p fd bytes)
   write_low fd bytes = low_descriptor l s kept valid who p is is_low fd _ _ (λ f _ low_did h.
       let id : Oid = f.description.object in
       let same = object_low l s id h in
-      let changed : (o : Object) → AreVisible l s (SetObject id o ∷ moved f (place_in (open_object s f) f + length bytes) ∷ []) None =
-      λ o. part_of_low l s.top (SetObject id o ∷ moved f _ ∷ []) (h, (low_did, tt)) in
+      let changed : (o : Object) → AreVisible l s (SetObject id o ∷ offset_change f (place_in (open_object s f) f + length bytes) ∷ []) None =
+      λ o. part_of_low l s.top (SetObject id o ∷ offset_change f _ ∷ []) (h, (low_did, tt)) in
       in_part_refuse l s who p errno.EBADF _ _ _ _ refl
       (λ _. low_handle_write f h _ _
       (in_part_cond l s who p _ _ _ _ _ _ (λ i. is_stream (same i).kind)
@@ -136,4 +136,4 @@ module _ (l : Label) (s : State) (kept : Kept l s) (valid : IsValid s) (who : Pi
       (in_part_refuse l s who p errno.EPIPE _ _ _ _ (ap not (any_open_low l s kept valid id h stream (λ d. d.reads)))
       (λ _. in_part_itself l s who p _ (refl, part_of_low l s.top (SetObject id _ ∷ []) (h, tt)))))
       (λ _. low_by_object l s kept valid who p is is_low id h (into_file bytes f)
-      (refl, (refl, each_commit_cond (AreVisible l s) (length bytes == 0) _ _ (part_of_low l s.top (moved f _ ∷ []) (low_did, tt)) (changed _, changed _)))))))
+      (refl, (refl, each_commit_cond (AreVisible l s) (length bytes == 0) _ _ (part_of_low l s.top (offset_change f _ ∷ []) (low_did, tt)) (changed _, changed _)))))))

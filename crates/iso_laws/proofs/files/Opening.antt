@@ -19,9 +19,9 @@ use Rattle.kern_model.specs.declared.objects.Attr.{Attr}
 use Rattle.kern_model.specs.declared.objects.Body.TheVariants as body
 use Rattle.kern_model.specs.declared.objects.Object.{Object}
 use Rattle.kern_model.specs.Arguments.{are_flags}
-use Rattle.kern_model.specs.Create.{attr_of, made}
+use Rattle.kern_model.specs.Create.{attr_of, creation}
 use Rattle.kern_model.specs.Descriptors.{lowest_free}
-use Rattle.kern_model.specs.FileRows.{described_after, opened_with, opening, rewritten, cleared}
+use Rattle.kern_model.specs.FileRows.{description_creation_after, opened_with, opening, content_change, unprivileged}
 use Rattle.kern_model.specs.OpenRows.{open_row, open_found, open_present, open_absent, allowed_by_label, open_labelled, opens, opens_present}
 use Rattle.kern_model.specs.Isolation.{low, Kept}
 use Rattle.kern_model.specs.Kinds.{object_with, masked}
@@ -45,7 +45,7 @@ module _ (l : Label) (s : State) (kept : Kept l s) (valid : IsValid s) (who : Pi
       → SameInPart l s who p (opens s who p id flags before) (opens part_s who p id' flags before')
   low_opens id id' same before before' seen =
       let seen_opening : opening part_s who p id' flags ≡ part_changes l s.top (opening s who p id flags) =
-      (λ i. described_after (descriptions_drawn_low l s p.label is_low i) p.label who p (opened_with flags (same i)))
+      (λ i. description_creation_after (descriptions_drawn_low l s p.label is_low i) p.label who p (opened_with flags (same i)))
       ∙ sym (part_of_low l s.top (opening s who p id flags) (is_low, (is_low, (kept.procs who p is ∙ is_low, tt)))) in
       in_part_commit l s who p _ _ (answer.Number (lowest_free p.fds)) None
       ((λ i. seen i ++ seen_opening i) ∙ sym (part_changes-append l s.top before (opening s who p id flags)))
@@ -58,7 +58,7 @@ module _ (l : Label) (s : State) (kept : Kept l s) (valid : IsValid s) (who : Pi
       (λ _. low_enter_in l s kept valid who p is is_low dir h is_dir _ _ _ (created_order_low l s kept valid who p is is_low dir place h) _ _
       (in_part_refuse l s who p errno.ENOSPC _ _ _ _ (ap not (has_object_number_low l s kept valid who p is is_low))
       (λ _. low_opens (next_object s p.label) (next_object part_s p.label) (λ i. record { label = p.label; n = drawn_low l s p.label is_low i + 1 })
-      (made s p.label dir name o) _ (made_in_part l s kept valid who p is is_low dir name o h))))
+      (creation s p.label dir name o) _ (made_in_part l s kept valid who p is is_low dir name o h))))
 
   -- a check that is made where it is asked for
   where_asked : (b : Bool) (c : Check) (r r' : Row) → SameInPart l s who p r r' → SameInPart l s who p (need_if b c r) (need_if b c r')
@@ -69,13 +69,13 @@ module _ (l : Label) (s : State) (kept : Kept l s) (valid : IsValid s) (who : Pi
   low_labelled id place h =
       let o : Object = object_at s id in
       let emptied : (attr : Attr) → SameInPart l s who p (opens_present s who p flags id o (Some attr)) (opens_present part_s who p flags id o (Some attr)) =
-      λ attr. let empties : List Change = rewritten id o [] attr ∷ [] in low_opens id id refl empties empties (sym (part_of_low l s.top empties (h, tt))) in
+      λ attr. let empties : List Change = content_change id o [] attr ∷ [] in low_opens id id refl empties empties (sym (part_of_low l s.top empties (h, tt))) in
       subst (λ x. SameInPart l s who p (open_labelled s who p flags id place o) (open_labelled part_s who p flags id place x)) (sym (object_low l s id h))
       (in_part_refuse l s who p errno.EISDIR _ _ _ _ refl
       (λ _. in_part_refuse l s who p errno.EINVAL _ _ _ _ refl
       (λ _. where_asked _ _ _ _ (where_asked _ _ _ _ (where_asked _ _ _ _
       (in_part_cond l s who p _ _ _ _ _ _ refl
-      (λ _. in_part_soft l s who p _ _ _ _ _ (λ _. emptied o.attr) (emptied (cleared o.attr)))
+      (λ _. in_part_soft l s who p _ _ _ _ _ (λ _. emptied o.attr) (emptied (unprivileged o.attr)))
       (λ _. low_opens id id refl [] [] refl)))))))
 
   -- an object that is opened is Low, since its label is checked

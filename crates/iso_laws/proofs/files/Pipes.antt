@@ -16,7 +16,7 @@ use Rattle.kern_model.specs.declared.objects.Object.{Object}
 use Rattle.kern_model.specs.Create.{drawing, has_object_number}
 use Rattle.kern_model.specs.Descriptors.{open_count, lowest_free, with_descriptor}
 use Rattle.kern_model.specs.Entries.{link_count}
-use Rattle.kern_model.specs.FileRows.{new_pipe, on_pipe, second_description, piped}
+use Rattle.kern_model.specs.FileRows.{new_pipe, on_pipe, second_description, pipe_creation}
 use Rattle.kern_model.specs.Keys.{Spot, oid_cmp, same_oid}
 use Rattle.kern_model.specs.State.{State, Process, SetProcess, SetDescription, DrawDescription, changed_by, drawn, next_description, next_object, root}
 use Rattle.kern_model.specs.Valid.{IsValid, IsReached, IsValidObject}
@@ -116,7 +116,7 @@ module _ (s : State) (valid : IsValid s) (who : Pid) (p : Process) (is : map.get
   whole_state n = changed_by half_state (DrawDescription p.label n ∷ SetDescription (record { label = p.label; n = n }) (on_pipe (next_object s p.label) false) ∷ SetProcess who (with_descriptor one_end (record { label = p.label; n = n })) ∷ [])
 
   -- a valid state stays valid where a pipe is made and opened at both ends
-  pub valid_piped : has_object_number s p.label ≡ true → open_count p + 2 ≤ MAX_DESCRIPTORS → drawn s.description_numbers p.label + 2 ≤ MAX_DESCRIPTIONS → IsValid (changed_by s (piped s who p))
+  pub valid_piped : has_object_number s p.label ≡ true → open_count p + 2 ≤ MAX_DESCRIPTORS → drawn s.description_numbers p.label + 2 ≤ MAX_DESCRIPTIONS → IsValid (changed_by s (pipe_creation s who p))
   valid_piped left free numbers =
       let n : ℕ = drawn s.description_numbers p.label in
       let o : Object = new_pipe p in

@@ -18,7 +18,7 @@ use Rattle.kern_model.specs.Arguments.{are_flags, are_names}
 use Rattle.kern_model.specs.Create.{attr_of, has_object_number}
 use Rattle.kern_model.specs.Descriptors.{Opened}
 use Rattle.kern_model.specs.Entries.{is_removed}
-use Rattle.kern_model.specs.FileRows.{close_row, read_row, write_row, lseek_row, dup_row, pipe_row, fstat_row, on_descriptor, open_object, writing, cleared}
+use Rattle.kern_model.specs.FileRows.{close_row, read_row, write_row, lseek_row, dup_row, pipe_row, fstat_row, on_descriptor, open_object, writing, unprivileged}
 use Rattle.kern_model.specs.OpenRows.{open_row, open_found, open_present, open_absent, open_emptying}
 use Rattle.kern_model.specs.Kinds.{is_file, is_stream, object_with, masked}
 use Rattle.kern_model.specs.Row.{Row, need_if}
@@ -61,7 +61,7 @@ module _ (Known : Check → Type 0) (Not : Bool → Type 0) (Given : Premise →
         of_reached _ _ id place (ByWalk id may.walked),
         (
           (λ _. OpenEmptied id flags place old may empties (λ mode. mode)),
-          OpenEmptied id flags place (cleared old) may empties (λ _. permissions_are_mode old.mode),
+          OpenEmptied id flags place (unprivileged old) may empties (λ _. permissions_are_mode old.mode),
         ),
       ))
       (λ _. Open id flags place may)
@@ -173,7 +173,7 @@ module _ (Known : Check → Type 0) (Not : Bool → Type 0) (Given : Premise →
                 at_handle _ _ fd f open_is,
                 (
                   (λ _. WriteFile fd f old bytes _ open_is written no_stream inside fits (λ mode. mode)),
-                  WriteFile fd f (cleared old) bytes _ open_is written no_stream inside fits (λ _. permissions_are_mode old.mode),
+                  WriteFile fd f (unprivileged old) bytes _ open_is written no_stream inside fits (λ _. permissions_are_mode old.mode),
                 ),
               )),
         ),

@@ -14,7 +14,7 @@ use Rattle.kern_model.specs.declared.limits.TheConstants.{MAX_FILE_BYTES, MAX_LI
 use Rattle.kern_model.specs.declared.numbers.Oid.{Oid}
 use Rattle.kern_model.specs.declared.objects.Kind.TheVariants as kind
 use Rattle.kern_model.specs.declared.objects.Object.{Object}
-use Rattle.kern_model.specs.Create.{made, has_object_number}
+use Rattle.kern_model.specs.Create.{creation, has_object_number}
 use Rattle.kern_model.specs.Entries.{is_empty, is_held, is_removed, link_count}
 use Rattle.kern_model.specs.Keys.{Spot, oid_cmp, spot_cmp, same_oid}
 use Rattle.kern_model.specs.Kinds.{is_dir, is_mode}
@@ -372,5 +372,5 @@ module _ (s : State) (valid : IsValid s) (p : Process) (dir : Oid) (name : Name)
     few = each_set_at label_cmp_total label_cmp_exact (λ (l : Label) (n : ℕ). n ≤ MAX_OBJECTS) 0 s.object_numbers p.label (drawn s.object_numbers p.label + 1) (omega (arith, ltb-true (drawn s.object_numbers p.label) MAX_OBJECTS left)) valid.object_numbers.few;
   }
 
-  pub valid_made : dominates s.top p.label ≡ true → has_object_number s p.label ≡ true → dominates p.label dir_is.object.label ≡ true → is_name name ≡ true → IsValid (changed_by s (made s p.label dir name o))
+  pub valid_made : dominates s.top p.label ≡ true → has_object_number s p.label ≡ true → dominates p.label dir_is.object.label ≡ true → is_name name ≡ true → IsValid (changed_by s (creation s p.label dir name o))
   valid_made below left order named = valid_tree s more_objects entries_now more_numbers still valid (made_object below) (made_entry order named) one_made (few_numbers below left)

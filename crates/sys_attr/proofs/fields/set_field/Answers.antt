@@ -51,19 +51,17 @@ pub returns-in_err-ask_label-in-Label : goal.returns-in_err-ask_label-in-Label
 returns-in_err-ask_label-in-Label c =
     let k = c.new-caller.result in
     let same = c.new-caller.ensures.caller in
-    let id = c.in_ok-object.object.id in
     rw c.in-Label.is
     (write_plays same _ (λ x. change x.state x.who x.process (Label c.in-Label.label)) c.in_ok-object.ensures.step
-    (stops_row {rest = λ _. give_label k.who c.in-Label.label id (object_at k.state id)} c.from_residual-in_err-ask_label-in-Label.result c.from_residual-in_err-ask_label-in-Label.ensures.1 (state_is same) (c.in_err-ask_label-in-Label.ensures id c.in_ok-object.ensures.object)))
+    (stops_row {rest = λ _. give_label k.who c.in-Label.label c.in_ok-object.object.id (object_at k.state c.in_ok-object.object.id)} c.from_residual-in_err-ask_label-in-Label.result c.from_residual-in_err-ask_label-in-Label.ensures.1 (state_is same) (c.in_err-ask_label-in-Label.ensures c.in_ok-object.object.id c.in_ok-object.ensures.object)))
 
 pub returns-in_ok-ask_label-in-Label : goal.returns-in_ok-ask_label-in-Label
 returns-in_ok-ask_label-in-Label c =
     let k = c.new-caller.result in
     let same = c.new-caller.ensures.caller in
-    let id = c.in_ok-object.object.id in
     let is = c.in_ok-object.ensures.object in
     rw c.in-Label.is
     (write_plays same _ (λ x. change x.state x.who x.process (Label c.in-Label.label)) c.in_ok-object.ensures.step
-    (then_plays {rest = λ _. give_label k.who c.in-Label.label id (object_at k.state id)} (c.in_ok-ask_label-in-Label.ensures id is)
-    (commits_as (c.leaves-in-Label.ensures ∙ (λ i. record { answer = Nothing; own = Some (MacSetFile (sym same i).who id (is i).label c.in-Label.label) }))
-    (change_is same (λ s. with_label id (object_at s id) c.in-Label.label) c.give_label.ensures))))
+    (then_plays {rest = λ _. give_label k.who c.in-Label.label c.in_ok-object.object.id (object_at k.state c.in_ok-object.object.id)} (c.in_ok-ask_label-in-Label.ensures c.in_ok-object.object.id is)
+    (commits_as (c.leaves-in-Label.ensures ∙ (λ i. record { answer = Nothing; own = Some (MacSetFile (sym same i).who c.in_ok-object.object.id (is i).label c.in-Label.label) }))
+    (change_is same (λ s. with_label c.in_ok-object.object.id (object_at s c.in_ok-object.object.id) c.in-Label.label) c.give_label.ensures))))

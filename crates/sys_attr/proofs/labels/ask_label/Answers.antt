@@ -6,7 +6,7 @@ use Rattle.kern_model.specs.Rules.{same_label}
 use Rattle.chk_rules.specs.CheckLog.{CheckLog}
 use Rattle.chk_rules.specs.RowSteps.{GoesOn}
 use Rattle.chk_rules.specs.declared.stop.Stop.{Stop}
-use Rattle.chk_rules.proofs.Steps.{gives, need_goes, need_stops}
+use Rattle.chk_rules.proofs.Steps.{equal_refusal, gives, need_goes, need_stops}
 use Rattle.sys_lookup.specs.declared.shared.Metadata.{Metadata}
 use Rattle.sys_attr.proofs.labels.ask_label.Goals as goal
 
@@ -26,9 +26,26 @@ returns-then-equal c id is =
     need_goes (c.in_ok-owner.ensures s id is)
     (left_out _ (change_label s c.args.label.now id c.args.place) (ap (λ (m : Metadata). same_label c.args.label.now m.label) (sym is) ∙ sym c.equal.ensures ∙ c.if-equal.true))
 
+pub returns-in_err-mac_change : goal.returns-in_err-mac_change
+returns-in_err-mac_change c id is =
+    let s = c.args.caller.now.state in
+    need_goes (c.in_ok-owner.ensures s id is)
+    (left_in _ (change_label s c.args.label.now id c.args.place) (ap (λ (m : Metadata). same_label c.args.label.now m.label) (sym is) ∙ sym c.equal.ensures ∙ c.if-equal.false)
+    (need_stops c.from_residual-in_err-mac_change.result c.from_residual-in_err-mac_change.ensures.1 (c.in_err-mac_change.ensures s id is)))
+
+pub returns-in_err-relabelled_order : goal.returns-in_err-relabelled_order
+returns-in_err-relabelled_order c id is =
+    let s = c.args.caller.now.state in
+    need_goes (c.in_ok-owner.ensures s id is)
+    (left_in _ (change_label s c.args.label.now id c.args.place) (ap (λ (m : Metadata). same_label c.args.label.now m.label) (sym is) ∙ sym c.equal.ensures ∙ c.if-equal.false)
+    (need_goes (c.in_ok-mac_change.ensures s id is)
+    (need_stops c.from_residual-in_err-relabelled_order.result c.from_residual-in_err-relabelled_order.ensures.1 (c.in_err-relabelled_order.ensures id is))))
+
 pub returns : goal.returns
 returns c id is =
     let s = c.args.caller.now.state in
     need_goes (c.in_ok-owner.ensures s id is)
     (left_in _ (change_label s c.args.label.now id c.args.place) (ap (λ (m : Metadata). same_label c.args.label.now m.label) (sym is) ∙ sym c.equal.ensures ∙ c.if-equal.false)
-    (c.may_change.ensures id is))
+    (need_goes (c.in_ok-mac_change.ensures s id is)
+    (need_goes (c.in_ok-relabelled_order.ensures id is)
+    (equal_refusal (c.has_entries.ensures id is) (c.refuse_if.ensures c.relabelled_order.new.checks)))))

@@ -26,8 +26,7 @@ returns c =
     let s = c.new-caller.result.state in
     let same = c.new-caller.ensures.caller in
     let id = c.in_ok-object.object.id in
-    let is = c.in_ok-object.ensures.object in
     let attr = λ (m : Metadata). record m.attr { owner = c.args.to.owner; group = c.args.to.group; mode = c.in_ok-mode.mode } in
     write_plays same (Path c.args.path) (λ k. change_owner k.process c.args.to.owner c.args.to.group) c.in_ok-object.ensures.step
-    (then_plays {rest = set_owner id (object_at s id) c.args.to.owner c.args.to.group} (c.in_ok-mode.ensures s id is)
-    (commits_as c.done.ensures (change_is same (λ x. with_attr id (object_at x id) (attr c.in_ok-object.object)) c.give_attr.ensures ∙ ap (λ m. changed s (with_attr id (object_at s id) (attr m))) is)))
+    (then_plays {rest = set_owner id (object_at s id) c.args.to.owner c.args.to.group} (c.in_ok-mode.ensures s id c.in_ok-object.ensures.object)
+    (commits_as c.done.ensures (change_is same (λ x. with_attr id (object_at x id) (attr c.in_ok-object.object)) c.give_attr.ensures ∙ ap (λ m. changed s (with_attr id (object_at s id) (attr m))) c.in_ok-object.ensures.object)))

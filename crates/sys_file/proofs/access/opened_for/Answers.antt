@@ -13,30 +13,23 @@ returns-in_err-opened-clause-step c =
 
 pub returns-in_err-refuse_if-clause-step : goal.returns-in_err-refuse_if-clause-step
 returns-in_err-refuse_if-clause-step c =
-    let log = c.args.checks.now in
-    then_goes {next = to_access c.args.access c.args.caller.now.state c.args.caller.now.process} (c.in_ok-opened.ensures.step log)
-    (refuse_stops c.from_residual-in_err-refuse_if.result c.from_residual-in_err-refuse_if.ensures.1 (equal_refusal (ap not c.is_open_for.ensures) (c.in_err-refuse_if.ensures log)))
+    then_goes {next = to_access c.args.access c.args.caller.now.state c.args.caller.now.process} (c.in_ok-opened.ensures.step c.args.checks.now)
+    (refuse_stops c.from_residual-in_err-refuse_if.result c.from_residual-in_err-refuse_if.ensures.1 (equal_refusal (ap not c.is_open_for.ensures) (c.in_err-refuse_if.ensures c.args.checks.now)))
 
 pub returns-in_err-object-clause-step : goal.returns-in_err-object-clause-step
 returns-in_err-object-clause-step c =
-    let s = c.args.caller.now.state in
-    let p = c.args.caller.now.process in
-    let log = c.args.checks.now in
-    let f = c.in_ok-opened.opened in
-    then_goes {next = to_access c.args.access s p} (c.in_ok-opened.ensures.step log)
-    (refuse_goes (equal_refusal (ap not c.is_open_for.ensures) (c.in_ok-refuse_if.ensures log))
-    (stops_there {next = λ (m : Metadata) rest. rest (f, m)} c.from_residual-in_err-object.result c.from_residual-in_err-object.ensures.1
-    (step_at (access_object c.args.access s p) (λ i. (c.opened-2.view_is i).description.object) c.in_err-object.ensures.step)))
+    let k = c.args.caller.now in
+    then_goes {next = to_access c.args.access k.state k.process} (c.in_ok-opened.ensures.step c.args.checks.now)
+    (refuse_goes (equal_refusal (ap not c.is_open_for.ensures) (c.in_ok-refuse_if.ensures c.args.checks.now))
+    (stops_there {next = λ (m : Metadata) rest. rest (c.in_ok-opened.opened, m)} c.from_residual-in_err-object.result c.from_residual-in_err-object.ensures.1
+    (step_at (access_object c.args.access k.state k.process) (λ i. (c.opened-2.view_is i).description.object) c.in_err-object.ensures.step)))
 
 pub returns-clause-step : goal.returns-clause-step
 returns-clause-step c =
-    let s = c.args.caller.now.state in
-    let p = c.args.caller.now.process in
-    let log = c.args.checks.now in
-    let f = c.in_ok-opened.opened in
-    then_goes {next = to_access c.args.access s p} (c.in_ok-opened.ensures.step log)
-    (refuse_goes (equal_refusal (ap not c.is_open_for.ensures) (c.in_ok-refuse_if.ensures log))
-    (then_goes {next = λ (m : Metadata) rest. rest (f, m)} (step_at (access_object c.args.access s p) (λ i. (c.opened-2.view_is i).description.object) c.in_ok-object.ensures.step) (gives refl)))
+    let k = c.args.caller.now in
+    then_goes {next = to_access c.args.access k.state k.process} (c.in_ok-opened.ensures.step c.args.checks.now)
+    (refuse_goes (equal_refusal (ap not c.is_open_for.ensures) (c.in_ok-refuse_if.ensures c.args.checks.now))
+    (then_goes {next = λ (m : Metadata) rest. rest (c.in_ok-opened.opened, m)} (step_at (access_object c.args.access k.state k.process) (λ i. (c.opened-2.view_is i).description.object) c.in_ok-object.ensures.step) (gives refl)))
 
 pub returns-clause-object : goal.returns-clause-object
 returns-clause-object c = c.in_ok-object.ensures.object ∙ ap (λ (f : Opened). metadata_of c.args.caller.now.state f.description.object) c.opened-2.view_is

@@ -2,7 +2,7 @@ use Rattle.std.proofs.Common.{◌≡◌, ap, sym, refl, subst, ◌∷◌, [], �
 use Rattle.std.proofs.lemmas.Int.{to_z-of_z}
 use Rattle.kern_model.specs.declared.calls.Answer.TheVariants as answer
 use Rattle.kern_model.specs.declared.calls.Errno.TheVariants.{EINVAL}
-use Rattle.kern_model.specs.FileRows.{moved, moves}
+use Rattle.kern_model.specs.FileRows.{offset_change, moves}
 use Rattle.kern_model.specs.State.{State}
 use Rattle.chk_rules.specs.declared.stop.Stop.TheVariants as stop
 use Rattle.fd_table.specs.declared.table.FdError.TheVariants as error
@@ -39,7 +39,7 @@ returns c = λ f log is.
           let new = w.in-Ok.ensures.moved f.did f.description at.did at.description in
           plays_result w.result-is
           (refuse_plays (lets_on within)
-          (commits_as {changes = moved f (unsigned_abs z) ∷ []} (answering w.answers.ensures (ap answer.Number offset))
+          (commits_as {changes = offset_change f (unsigned_abs z) ∷ []} (answering w.answers.ensures (ap answer.Number offset))
           (λ i. record s { procs = with_fds h.procs.procs (new i).processes; descriptions = (new i).descriptions; description_numbers = (new i).numbers })))
       | in-Err w ↦
           let past = no_value (is_past z c.args.size) (w.in-Err.ensures.offset some) refl in

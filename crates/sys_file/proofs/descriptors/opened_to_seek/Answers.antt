@@ -24,33 +24,25 @@ returns-in_err-opened-clause-step c =
 
 pub returns-in_err-object-clause-step : goal.returns-in_err-object-clause-step
 returns-in_err-object-clause-step c =
-    let s = c.args.caller.now.state in
-    let p = c.args.caller.now.process in
-    let log = c.args.checks.now in
-    then_goes {next = to_seek s p} (c.in_ok-opened.ensures.step log)
+    let k = c.args.caller.now in
+    then_goes {next = to_seek k.state k.process} (c.in_ok-opened.ensures.step c.args.checks.now)
     (need_stops c.from_residual-in_err-object.result c.from_residual-in_err-object.ensures.1
-    (step_at (access_object Read s p) (λ i. (c.opened-2.view_is i).description.object) c.in_err-object.ensures.step))
+    (step_at (access_object Read k.state k.process) (λ i. (c.opened-2.view_is i).description.object) c.in_err-object.ensures.step))
 
 pub returns-in_err-refuse_if-clause-step : goal.returns-in_err-refuse_if-clause-step
 returns-in_err-refuse_if-clause-step c =
-    let s = c.args.caller.now.state in
-    let p = c.args.caller.now.process in
-    let log = c.args.checks.now in
-    let f = c.in_ok-opened.opened in
-    then_goes {next = to_seek s p} (c.in_ok-opened.ensures.step log)
-    (need_goes (step_at (access_object Read s p) (λ i. (c.opened-2.view_is i).description.object) c.in_ok-object.ensures.step)
+    let k = c.args.caller.now in
+    then_goes {next = to_seek k.state k.process} (c.in_ok-opened.ensures.step c.args.checks.now)
+    (need_goes (step_at (access_object Read k.state k.process) (λ i. (c.opened-2.view_is i).description.object) c.in_ok-object.ensures.step)
     (refuse_stops c.from_residual-in_err-refuse_if.result c.from_residual-in_err-refuse_if.ensures.1
-    (equal_refusal (same_kind s _ f c.in_ok-object.object _ c.is_stream.ensures c.in_ok-object.ensures.object (λ i. (c.opened-2.view_is i).description.object)) (c.in_err-refuse_if.ensures c.read_object.new.checks))))
+    (equal_refusal (same_kind k.state _ c.in_ok-opened.opened c.in_ok-object.object _ c.is_stream.ensures c.in_ok-object.ensures.object (λ i. (c.opened-2.view_is i).description.object)) (c.in_err-refuse_if.ensures c.read_object.new.checks))))
 
 pub returns-clause-step : goal.returns-clause-step
 returns-clause-step c =
-    let s = c.args.caller.now.state in
-    let p = c.args.caller.now.process in
-    let log = c.args.checks.now in
-    let f = c.in_ok-opened.opened in
-    then_goes {next = to_seek s p} (c.in_ok-opened.ensures.step log)
-    (need_goes (step_at (access_object Read s p) (λ i. (c.opened-2.view_is i).description.object) c.in_ok-object.ensures.step)
-    (refuse_goes (equal_refusal (same_kind s _ f c.in_ok-object.object _ c.is_stream.ensures c.in_ok-object.ensures.object (λ i. (c.opened-2.view_is i).description.object)) (c.in_ok-refuse_if.ensures c.read_object.new.checks)) (gives refl)))
+    let k = c.args.caller.now in
+    then_goes {next = to_seek k.state k.process} (c.in_ok-opened.ensures.step c.args.checks.now)
+    (need_goes (step_at (access_object Read k.state k.process) (λ i. (c.opened-2.view_is i).description.object) c.in_ok-object.ensures.step)
+    (refuse_goes (equal_refusal (same_kind k.state _ c.in_ok-opened.opened c.in_ok-object.object _ c.is_stream.ensures c.in_ok-object.ensures.object (λ i. (c.opened-2.view_is i).description.object)) (c.in_ok-refuse_if.ensures c.read_object.new.checks)) (gives refl)))
 
 pub returns-clause-no_stream : goal.returns-clause-no_stream
 returns-clause-no_stream c =

@@ -1,7 +1,7 @@
 use Rattle.std.proofs.Common.{◌≡◌, ◌∙◌, ap, sym, subst, ◌+◌, true, cond, None, Some, Option, nat_le}
 use Rattle.kern_model.specs.declared.limits.TheConstants.{MAX_DESCRIPTIONS, MAX_DESCRIPTORS}
 use Rattle.kern_model.specs.Descriptors.{lowest_free}
-use Rattle.kern_model.specs.FileRows.{described_after, opening}
+use Rattle.kern_model.specs.FileRows.{description_creation_after, opening}
 use Rattle.kern_model.specs.State.{State, Process, changed_by, drawn, process_at}
 use Rattle.kern_model.specs.Valid.{IsThere}
 use Rattle.fd_table.specs.declared.table.FdError.{FdError}
@@ -62,7 +62,7 @@ returns-clause-described c =
       | in-Ok w ↦ on_ok w.result-is Made
           (ap (with_files s h.procs.procs) w.in-Ok.ensures.opened
           ∙ opened_shows s h.procs.procs h.fds c.reserve.new.self same who stands.process stands.is c.label-label.result (opened_for id c.how.result)
-          ∙ (λ i. changed_by (c.shared.view_is i) (described_after (drawn (c.shared.view_is i).description_numbers (label_is i)) (label_is i) who (stands.same i) (opened_for id (c.how.ensures i)))))
+          ∙ (λ i. changed_by (c.shared.view_is i) (description_creation_after (drawn (c.shared.view_is i).description_numbers (label_is i)) (label_is i) who (stands.same i) (opened_for id (c.how.ensures i)))))
       | in-Err w ↦ on_ok w.result-is Made tt
     ]
 

@@ -1,7 +1,7 @@
 use Rattle.std.proofs.Common.{◌∙◌, ap, sym, subst, [], Option}
 use Rattle.kern_model.specs.declared.objects.Attr.{Attr}
 use Rattle.kern_model.specs.declared.objects.Object.{Object}
-use Rattle.kern_model.specs.FileRows.{rewritten}
+use Rattle.kern_model.specs.FileRows.{content_change}
 use Rattle.kern_model.specs.OpenRows.{emptying}
 use Rattle.kern_model.specs.State.{changed, changed_by, object_at}
 use Rattle.fs_nodes.specs.Nodes.{IsFile}
@@ -23,5 +23,5 @@ returns-in-Some c =
     let id = c.args.id.now in
     let file : IsFile s.objects id = subst (CanBeEmptied s id) c.in-Some.is c.requires in
     c.empty.ensures file.object file.is
-    ∙ ap (λ (o : Object). changed s (rewritten id o [] c.in-Some.attr)) (sym (object_is s id file.object file.is))
+    ∙ ap (λ (o : Object). changed s (content_change id o [] c.in-Some.attr)) (sym (object_is s id file.object file.is))
     ∙ ap (λ (e : Option Attr). changed_by s (emptying id (object_at s id) e)) (sym c.in-Some.is)

@@ -30,51 +30,43 @@ describe-requires-clause-left c =
 pub describe-requires-2-clause-living : goal.describe-requires-2-clause-living
 describe-requires-2-clause-living c =
     let s = c.args.shared.now in
-    let who = c.args.who.now in
-    let p = process_at s who in
-    let one = reader_made s who c.in_ok-id.id c.in_ok-id.ensures.made c.in_ok-reader.ensures.described c.end_flags.ensures in
-    ap (λ (x : State). is_some (map.get x.procs who)) one ∙ ap is_some (get-insert_same pid_cmp_total s.procs who (with_descriptor p (next_description s p.label)))
+    let p = process_at s c.args.who.now in
+    let one = reader_made s c.args.who.now c.in_ok-id.id c.in_ok-id.ensures.made c.in_ok-reader.ensures.described c.end_flags.ensures in
+    ap (λ (x : State). is_some (map.get x.procs c.args.who.now)) one ∙ ap is_some (get-insert_same pid_cmp_total s.procs c.args.who.now (with_descriptor p (next_description s p.label)))
 
 pub describe-requires-2-clause-free : goal.describe-requires-2-clause-free
 describe-requires-2-clause-free c =
     let s = c.args.shared.now in
-    let who = c.args.who.now in
-    let p = process_at s who in
-    let one = reader_made s who c.in_ok-id.id c.in_ok-id.ensures.made c.in_ok-reader.ensures.described c.end_flags.ensures in
-    ap (λ (x : State). has_free_descriptors (process_at x who) 1) one
-    ∙ ap (λ (x : Process). has_free_descriptors x 1) (reader_is s who p c.in_ok-id.id)
+    let p = process_at s c.args.who.now in
+    let one = reader_made s c.args.who.now c.in_ok-id.id c.in_ok-id.ensures.made c.in_ok-reader.ensures.described c.end_flags.ensures in
+    ap (λ (x : State). has_free_descriptors (process_at x c.args.who.now) 1) one
+    ∙ ap (λ (x : Process). has_free_descriptors x 1) (reader_is s c.args.who.now p c.in_ok-id.id)
     ∙ one_left p (next_description s p.label) c.requires.free
 
 pub describe-requires-2-clause-left : goal.describe-requires-2-clause-left
 describe-requires-2-clause-left c =
     let s = c.args.shared.now in
-    let who = c.args.who.now in
-    let p = process_at s who in
-    let id = c.in_ok-id.id in
-    let one = reader_made s who c.in_ok-id.id c.in_ok-id.ensures.made c.in_ok-reader.ensures.described c.end_flags.ensures in
-    ap (λ (x : State). has_descriptions x (process_at x who) 1) one
-    ∙ ap (λ (x : Process). has_descriptions (with_reader s who p id) x 1) (reader_is s who p id)
+    let p = process_at s c.args.who.now in
+    let one = reader_made s c.args.who.now c.in_ok-id.id c.in_ok-id.ensures.made c.in_ok-reader.ensures.described c.end_flags.ensures in
+    ap (λ (x : State). has_descriptions x (process_at x c.args.who.now) 1) one
+    ∙ ap (λ (x : Process). has_descriptions (with_reader s c.args.who.now p c.in_ok-id.id) x 1) (reader_is s c.args.who.now p c.in_ok-id.id)
     ∙ ap (λ n. nat_le n MAX_DESCRIPTIONS) (drawn_after s p.label) ∙ c.requires.left
 
 pub returns-clause-answer : goal.returns-clause-answer
 returns-clause-answer c =
     let s = c.args.shared.now in
-    let who = c.args.who.now in
-    let p = process_at s who in
-    let id = c.in_ok-id.id in
-    let one = reader_made s who c.in_ok-id.id c.in_ok-id.ensures.made c.in_ok-reader.ensures.described c.end_flags.ensures in
-    let first = c.in_ok-reader.ensures.fd ∙ ap (λ (x : State). lowest_free (process_at x who).fds) c.in_ok-id.ensures.made in
-    let second = c.in_ok-writer.ensures.fd ∙ ap (λ (x : State). lowest_free (process_at x who).fds) one ∙ ap (λ (x : Process). lowest_free x.fds) (reader_is s who p id) in
+    let p = process_at s c.args.who.now in
+    let one = reader_made s c.args.who.now c.in_ok-id.id c.in_ok-id.ensures.made c.in_ok-reader.ensures.described c.end_flags.ensures in
+    let first = c.in_ok-reader.ensures.fd ∙ ap (λ (x : State). lowest_free (process_at x c.args.who.now).fds) c.in_ok-id.ensures.made in
+    let second = c.in_ok-writer.ensures.fd ∙ ap (λ (x : State). lowest_free (process_at x c.args.who.now).fds) one ∙ ap (λ (x : Process). lowest_free x.fds) (reader_is s c.args.who.now p c.in_ok-id.id) in
     c.answers.ensures ∙ (λ i. record { answer = answer.Two (first i) (second i); own = None })
 
 pub returns-clause-piped : goal.returns-clause-piped
 returns-clause-piped c =
     let s = c.args.shared.now in
-    let who = c.args.who.now in
-    let p = process_at s who in
-    let id = c.in_ok-id.id in
-    let one = reader_made s who c.in_ok-id.id c.in_ok-id.ensures.made c.in_ok-reader.ensures.described c.end_flags.ensures in
+    let p = process_at s c.args.who.now in
+    let one = reader_made s c.args.who.now c.in_ok-id.id c.in_ok-id.ensures.made c.in_ok-reader.ensures.described c.end_flags.ensures in
     c.in_ok-writer.ensures.described
-    ∙ (λ i. changed_by (one i) (opening (one i) who (process_at (one i) who) id (c.end_flags-2.ensures i)))
-    ∙ ap (λ (x : Process). let u = with_reader s who p id in changed_by u (opening u who x id (end_flags false))) (reader_is s who p id)
-    ∙ both_are s who p id c.in_ok-id.ensures.id
+    ∙ (λ i. changed_by (one i) (opening (one i) c.args.who.now (process_at (one i) c.args.who.now) c.in_ok-id.id (c.end_flags-2.ensures i)))
+    ∙ ap (λ (x : Process). let u = with_reader s c.args.who.now p c.in_ok-id.id in changed_by u (opening u c.args.who.now x c.in_ok-id.id (end_flags false))) (reader_is s c.args.who.now p c.in_ok-id.id)
+    ∙ both_are s c.args.who.now p c.in_ok-id.id c.in_ok-id.ensures.id

@@ -21,10 +21,8 @@ returns-in_err-may_open c = λ log.
 pub returns-in_err-refuse_if : goal.returns-in_err-refuse_if
 returns-in_err-refuse_if c = λ log.
     let s = c.args.shared.now in
-    let who = c.args.who.now in
-    let p = process_at s who in
     let can = c.can_create.ensures ∙ ap (has_object_number s) (c.label.ensures ∙ ap (λ (k : CallerView). k.process.label) c.new-caller.ensures.caller) in
-    then_plays {rest = λ _. to_number s p.label (λ _. make_pipe s who p)} (step_called (λ k rest. may_describe k.state k.process 2 (rest tt)) c.new-caller.ensures.caller (c.in_ok-may_open.ensures.step log))
+    then_plays {rest = λ _. to_number s (process_at s c.args.who.now).label (λ _. make_pipe s c.args.who.now (process_at s c.args.who.now))} (step_called (λ k rest. may_describe k.state k.process 2 (rest tt)) c.new-caller.ensures.caller (c.in_ok-may_open.ensures.step log))
     (refuse_stops_row c.from_residual-in_err-refuse_if.result c.from_residual-in_err-refuse_if.ensures.1 refl (equal_refusal (ap not can) (c.in_err-refuse_if.ensures log)))
 
 pub make_pipe-requires-clause-number : goal.make_pipe-requires-clause-number
@@ -44,9 +42,7 @@ returns-in_err-make_pipe c = λ log. no_memory_row c.from_residual-in_err-make_p
 pub returns : goal.returns
 returns c = λ log.
     let s = c.args.shared.now in
-    let who = c.args.who.now in
-    let p = process_at s who in
     let can = c.can_create.ensures ∙ ap (has_object_number s) (c.label.ensures ∙ ap (λ (k : CallerView). k.process.label) c.new-caller.ensures.caller) in
-    then_plays {rest = λ _. to_number s p.label (λ _. make_pipe s who p)} (step_called (λ k rest. may_describe k.state k.process 2 (rest tt)) c.new-caller.ensures.caller (c.in_ok-may_open.ensures.step log))
+    then_plays {rest = λ _. to_number s (process_at s c.args.who.now).label (λ _. make_pipe s c.args.who.now (process_at s c.args.who.now))} (step_called (λ k rest. may_describe k.state k.process 2 (rest tt)) c.new-caller.ensures.caller (c.in_ok-may_open.ensures.step log))
     (refuse_plays (equal_refusal (ap not can) (c.in_ok-refuse_if.ensures log))
     (commits_as c.in_ok-make_pipe.ensures.answer c.in_ok-make_pipe.ensures.piped))

@@ -38,14 +38,11 @@ returns-then-not-is_stream c =
 
 pub returns-in_err-mac_write : goal.returns-in_err-mac_write
 returns-in_err-mac_write c =
-    let s = c.args.shared.now in
-    let p = process_at s c.args.who.now in
-    let same = c.new-caller.ensures.caller in
+    let p = process_at c.args.shared.now c.args.who.now in
     let f = c.in_ok-opened.opened in
-    let is = c.in_ok-opened.ensures.object in
-    access_plays same Read c.args.fd (read_opened s p c.args.n) c.in_ok-opened.ensures.step
-    (stream_stops p c.args.n f (stream_is same f is c.is_stream.ensures c.if-not-is_stream.false) c.from_residual-in_err-mac_write.ensures.1 refl
-    (step_called (λ k rest. Need (mac_write s k.process f.description.object Handle) (rest tt)) same (c.in_err-mac_write.ensures s f.description.object (metadata_is same is))))
+    access_plays c.new-caller.ensures.caller Read c.args.fd (read_opened c.args.shared.now p c.args.n) c.in_ok-opened.ensures.step
+    (stream_stops p c.args.n f (stream_is c.new-caller.ensures.caller f c.in_ok-opened.ensures.object c.is_stream.ensures c.if-not-is_stream.false) c.from_residual-in_err-mac_write.ensures.1 refl
+    (step_called (λ k rest. Need (mac_write c.args.shared.now k.process f.description.object Handle) (rest tt)) c.new-caller.ensures.caller (c.in_err-mac_write.ensures c.args.shared.now f.description.object (metadata_is c.new-caller.ensures.caller c.in_ok-opened.ensures.object))))
 
 pub read_stream-requires-clause-stream : goal.read_stream-requires-clause-stream
 read_stream-requires-clause-stream c =
@@ -54,12 +51,9 @@ read_stream-requires-clause-stream c =
 
 pub returns : goal.returns
 returns c =
-    let s = c.args.shared.now in
-    let p = process_at s c.args.who.now in
-    let same = c.new-caller.ensures.caller in
+    let p = process_at c.args.shared.now c.args.who.now in
     let f = c.in_ok-opened.opened in
-    let is = c.in_ok-opened.ensures.object in
-    access_plays same Read c.args.fd (read_opened s p c.args.n) c.in_ok-opened.ensures.step
-    (stream_plays p c.args.n f (stream_is same f is c.is_stream.ensures c.if-not-is_stream.false)
-    (step_called (λ k rest. Need (mac_write s k.process f.description.object Handle) (rest tt)) same (c.in_ok-mac_write.ensures s f.description.object (metadata_is same is)))
+    access_plays c.new-caller.ensures.caller Read c.args.fd (read_opened c.args.shared.now p c.args.n) c.in_ok-opened.ensures.step
+    (stream_plays p c.args.n f (stream_is c.new-caller.ensures.caller f c.in_ok-opened.ensures.object c.is_stream.ensures c.if-not-is_stream.false)
+    (step_called (λ k rest. Need (mac_write c.args.shared.now k.process f.description.object Handle) (rest tt)) c.new-caller.ensures.caller (c.in_ok-mac_write.ensures c.args.shared.now f.description.object (metadata_is c.new-caller.ensures.caller c.in_ok-opened.ensures.object)))
     (c.read_stream.ensures c.mac_write.new.checks))

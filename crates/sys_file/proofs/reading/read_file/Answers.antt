@@ -1,7 +1,7 @@
 use Rattle.std.proofs.Common.{◌≡◌, ◌∙◌, ◌+◌, ◌-◌, ap, sym, refl, subst, arith, min, ℕ, List, [], ◌∷◌, Ok, drop, length, take}
 use Rattle.std.specs.FinMap as map
 use Rattle.std.proofs.lemmas.List.{length-drop, length-take}
-use Rattle.kern_model.specs.FileRows.{from_file, moved}
+use Rattle.kern_model.specs.FileRows.{from_file, offset_change}
 use Rattle.kern_model.specs.State.{changed}
 use Rattle.sys_lookup.proofs.PlayLemmas.{commits_as, no_memory_row, refuse_plays}
 use Rattle.sys_lookup.proofs.RefuseLemmas.{lets_on}
@@ -41,5 +41,5 @@ returns c = λ log.
     let is = bytes ∙ (λ i. take c.args.n (drop (c.opened.view_is i).description.offset (sym same i).bytes)) in
     refuse_plays (lets_on refl)
     (subst (λ (taken : List ℕ). PlaysRow s log (from_file f taken) (Ok c.answers.result) c.set_offset.new.shared log) is
-    (commits_as {changes = moved f (f.description.offset + length c.in_ok-bytes.bytes) ∷ []} c.answers.ensures
-    (c.set_offset.ensures f c.requires.open ∙ (λ i. changed s (moved f ((c.opened.view_is i).description.offset + length (c.items.ensures i)))))))
+    (commits_as {changes = offset_change f (f.description.offset + length c.in_ok-bytes.bytes) ∷ []} c.answers.ensures
+    (c.set_offset.ensures f c.requires.open ∙ (λ i. changed s (offset_change f ((c.opened.view_is i).description.offset + length (c.items.ensures i)))))))

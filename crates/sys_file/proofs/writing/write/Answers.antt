@@ -1,5 +1,5 @@
 use Rattle.std.proofs.Common.{◌∙◌, ◌+◌, ap, sym, subst, refl, length, is_some, Ok}
-use Rattle.kern_model.specs.FileRows.{moved, open_object, put_in, write_opened, writes_at}
+use Rattle.kern_model.specs.FileRows.{offset_change, open_object, put_in, write_opened, writes_at}
 use Rattle.kern_model.specs.State.{changed}
 use Rattle.fs_nodes.specs.Nodes.{IsFile}
 use Rattle.sys_lookup.proofs.PlayLemmas.{no_memory_row, stops_row, then_plays}
@@ -66,12 +66,10 @@ pub returns-in_err-attr : goal.returns-in_err-attr
 returns-in_err-attr c =
     let s = c.args.shared.now in
     let f = c.in_ok-opened.opened in
-    let bytes = c.args.bytes.now in
-    let log = c.opened_for.new.checks in
-    access_plays c.new-caller.ensures.caller Write c.args.fd (write_opened s bytes) c.in_ok-opened.ensures.step
+    access_plays c.new-caller.ensures.caller Write c.args.fd (write_opened s c.args.bytes.now) c.in_ok-opened.ensures.step
     (plays_else _ (stream_is c.new-caller.ensures.caller c.in_ok-opened.opened c.in_ok-opened.ensures.object c.is_stream.ensures c.if-is_stream.false)
-    (then_plays {rest = writes_at bytes f (open_object s f)} (c.in_ok-at.ensures.step log)
-    (some_stopped s bytes f (open_object s f) c.in_ok-at.at log c.kept_attr.new.checks _ c.from_residual-in_err-attr.result (sym c.is_empty.ensures ∙ c.if-is_empty.false) c.from_residual-in_err-attr.ensures.1
+    (then_plays {rest = writes_at c.args.bytes.now f (open_object s f)} (c.in_ok-at.ensures.step c.opened_for.new.checks)
+    (some_stopped s c.args.bytes.now f (open_object s f) c.in_ok-at.at c.opened_for.new.checks c.kept_attr.new.checks _ c.from_residual-in_err-attr.result (sym c.is_empty.ensures ∙ c.if-is_empty.false) c.from_residual-in_err-attr.ensures.1
     (c.in_err-attr.ensures s f.description.object (metadata_is c.new-caller.ensures.caller c.in_ok-opened.ensures.object)))))
 
 pub overwrite-requires-clause-file : goal.overwrite-requires-clause-file
@@ -105,4 +103,4 @@ returns c =
     (subst (λ (e : Effect). PlaysRow s log (writes_at bytes f (open_object s f) at) (Ok e) t c.kept_attr.new.checks) (sym c.move_after-2.ensures.effect)
     (some_written s bytes f (open_object s f) at log c.kept_attr.new.checks attr t (sym c.is_empty.ensures ∙ c.if-is_empty.false)
     (c.in_ok-attr.ensures s f.description.object (metadata_is c.new-caller.ensures.caller c.in_ok-opened.ensures.object))
-    (c.move_after-2.ensures.moved f found ∙ ap (λ x. changed x (moved f (at + length bytes))) written)))))
+    (c.move_after-2.ensures.moved f found ∙ ap (λ x. changed x (offset_change f (at + length bytes))) written)))))

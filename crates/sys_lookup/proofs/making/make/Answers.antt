@@ -1,10 +1,8 @@
 use Rattle.std.proofs.Common.{◌≡◌, ◌∙◌, ap, refl, subst, ℕ, Ok}
-use Rattle.fs_path.specs.Name.{Name}
 use Rattle.lab_lattice.specs.Label.{Label}
 use Rattle.kern_model.specs.declared.objects.Attr.{Attr}
-use Rattle.kern_model.specs.declared.numbers.Oid.{Oid}
 use Rattle.kern_model.specs.declared.numbers.Pid.{Pid}
-use Rattle.kern_model.specs.Create.{attr_of, made}
+use Rattle.kern_model.specs.Create.{attr_of}
 use Rattle.kern_model.specs.Kinds.{masked, object_with}
 use Rattle.kern_model.specs.State.{State, Process, process_at}
 use Rattle.kern_model.specs.TreeRows.{make_at, make_object, make_spot, put_object}

@@ -31,19 +31,16 @@ gets_name s who same path to {id} {place} led asks plays =
 pub returns-in_err-id-clause-played : goal.returns-in_err-id-clause-played
 returns-in_err-id-clause-played c =
     let s = c.args.shared.now in
-    let who = c.args.who.now in
-    path_stops s who c.new-caller.ensures.caller c.args.path.now (link_to s (process_at s who) c.args.to.now) c.from_residual.result c.from_residual.ensures.1 c.in_err-id.ensures.step
+    path_stops s c.args.who.now c.new-caller.ensures.caller c.args.path.now (link_to s (process_at s c.args.who.now) c.args.to.now) c.from_residual.result c.from_residual.ensures.1 c.in_err-id.ensures.step
 
 pub returns-in_err-ask_name-clause-played : goal.returns-in_err-ask_name-clause-played
 returns-in_err-ask_name-clause-played c =
     let s = c.args.shared.now in
     let p = process_at s c.args.who.now in
     let same = c.new-caller.ensures.caller in
-    let id = c.in_ok-id.id in
-    let place = c.in_ok-id.place in
     path_plays s c.args.who.now same c.args.path.now (link_to s p c.args.to.now) c.in_ok-id.ensures.step
-    (item_stops_row (asks_name s p id place) c.from_residual-in_err-ask_name.result c.from_residual-in_err-ask_name.ensures.1 refl
-    (step_called (λ k rest. asks_name k.state k.process id place (rest tt)) same c.in_err-ask_name.ensures.step))
+    (item_stops_row (asks_name s p c.in_ok-id.id c.in_ok-id.place) c.from_residual-in_err-ask_name.result c.from_residual-in_err-ask_name.ensures.1 refl
+    (step_called (λ k rest. asks_name k.state k.process c.in_ok-id.id c.in_ok-id.place (rest tt)) same c.in_err-ask_name.ensures.step))
 
 pub returns-in_err-dir-clause-played : goal.returns-in_err-dir-clause-played
 returns-in_err-dir-clause-played c =

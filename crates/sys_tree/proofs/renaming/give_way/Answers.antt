@@ -19,45 +19,37 @@ at_target s p id {o = o} {place = place} {a = a} {b = b} {r = r} same here step 
 
 pub returns-in_err-target : goal.returns-in_err-target
 returns-in_err-target c = λ is.
-    let s = c.args.caller.now.state in
-    let id = c.args.object.now.id in
     let t = c.in-Some.id in
-    at_target s c.args.caller.now.process id (sym c.in-Some.is) c.last_place.ensures
-    (need_stops {part = over_other s id t (same_oid t id)} c.from_residual.result c.from_residual.ensures.1 c.in_err-target.ensures.step)
+    at_target c.args.caller.now.state c.args.caller.now.process c.args.object.now.id (sym c.in-Some.is) c.last_place.ensures
+    (need_stops {part = over_other c.args.caller.now.state c.args.object.now.id t (same_oid t c.args.object.now.id)} c.from_residual.result c.from_residual.ensures.1 c.in_err-target.ensures.step)
 
 pub returns-then-is_same : goal.returns-then-is_same
 returns-then-is_same c = λ is.
-    let s = c.args.caller.now.state in
-    let id = c.args.object.now.id in
     let t = c.in-Some.id in
     let log = c.write_object.new.checks in
-    at_target s c.args.caller.now.process id (sym c.in-Some.is) c.last_place.ensures
-    (need_goes {part = over_other s id t (same_oid t id)} c.in_ok-target.ensures.step
-    (subst (λ (b : Bool). GoesOn log (over_other s id t b) (Ok false) log) (sym (sym c.is_same.ensures ∙ c.if-is_same.true)) (gives refl)))
+    at_target c.args.caller.now.state c.args.caller.now.process c.args.object.now.id (sym c.in-Some.is) c.last_place.ensures
+    (need_goes {part = over_other c.args.caller.now.state c.args.object.now.id t (same_oid t c.args.object.now.id)} c.in_ok-target.ensures.step
+    (subst (λ (b : Bool). GoesOn log (over_other c.args.caller.now.state c.args.object.now.id t b) (Ok false) log) (sym (sym c.is_same.ensures ∙ c.if-is_same.true)) (gives refl)))
 
 pub returns-in_err-may_replace : goal.returns-in_err-may_replace
 returns-in_err-may_replace c = λ is.
-    let s = c.args.caller.now.state in
-    let id = c.args.object.now.id in
     let t = c.in-Some.id in
     let log = c.write_object.new.checks in
     let r = c.from_residual-in_err-may_replace.result in
     let there = read_by c.args.caller.now t c.in_ok-target.ensures.object in
-    let step = subst (λ (x : Oid). GoesOn log (λ rest. may_replace s id x (rest tt)) (Err c.in_err-may_replace.field-0.0) log) (ap (λ (m : Metadata). m.id) c.in_ok-target.ensures.object) (c.in_err-may_replace.ensures log is there) in
-    at_target s c.args.caller.now.process id (sym c.in-Some.is) c.last_place.ensures
-    (need_goes {part = over_other s id t (same_oid t id)} c.in_ok-target.ensures.step
-    (subst (λ (b : Bool). GoesOn log (over_other s id t b) r log) (sym (sym c.is_same.ensures ∙ c.if-is_same.false))
-    (item_stops (may_replace s id t) r c.from_residual-in_err-may_replace.ensures.1 step)))
+    let step = subst (λ (x : Oid). GoesOn log (λ rest. may_replace c.args.caller.now.state c.args.object.now.id x (rest tt)) (Err c.in_err-may_replace.field-0.0) log) (ap (λ (m : Metadata). m.id) c.in_ok-target.ensures.object) (c.in_err-may_replace.ensures log is there) in
+    at_target c.args.caller.now.state c.args.caller.now.process c.args.object.now.id (sym c.in-Some.is) c.last_place.ensures
+    (need_goes {part = over_other c.args.caller.now.state c.args.object.now.id t (same_oid t c.args.object.now.id)} c.in_ok-target.ensures.step
+    (subst (λ (b : Bool). GoesOn log (over_other c.args.caller.now.state c.args.object.now.id t b) r log) (sym (sym c.is_same.ensures ∙ c.if-is_same.false))
+    (item_stops (may_replace c.args.caller.now.state c.args.object.now.id t) r c.from_residual-in_err-may_replace.ensures.1 step)))
 
 pub returns : goal.returns
 returns c = λ is.
-    let s = c.args.caller.now.state in
-    let id = c.args.object.now.id in
     let t = c.in-Some.id in
     let log = c.write_object.new.checks in
     let there = read_by c.args.caller.now t c.in_ok-target.ensures.object in
-    let step = subst (λ (x : Oid). GoesOn log (λ rest. may_replace s id x (rest tt)) (Ok c.in_ok-may_replace.field-0) log) (ap (λ (m : Metadata). m.id) c.in_ok-target.ensures.object) (c.in_ok-may_replace.ensures log is there) in
-    at_target s c.args.caller.now.process id (sym c.in-Some.is) c.last_place.ensures
-    (need_goes {part = over_other s id t (same_oid t id)} c.in_ok-target.ensures.step
-    (subst (λ (b : Bool). GoesOn log (over_other s id t b) (Ok true) log) (sym (sym c.is_same.ensures ∙ c.if-is_same.false))
-    (item_goes (may_replace s id t) step (gives refl))))
+    let step = subst (λ (x : Oid). GoesOn log (λ rest. may_replace c.args.caller.now.state c.args.object.now.id x (rest tt)) (Ok c.in_ok-may_replace.field-0) log) (ap (λ (m : Metadata). m.id) c.in_ok-target.ensures.object) (c.in_ok-may_replace.ensures log is there) in
+    at_target c.args.caller.now.state c.args.caller.now.process c.args.object.now.id (sym c.in-Some.is) c.last_place.ensures
+    (need_goes {part = over_other c.args.caller.now.state c.args.object.now.id t (same_oid t c.args.object.now.id)} c.in_ok-target.ensures.step
+    (subst (λ (b : Bool). GoesOn log (over_other c.args.caller.now.state c.args.object.now.id t b) (Ok true) log) (sym (sym c.is_same.ensures ∙ c.if-is_same.false))
+    (item_goes (may_replace c.args.caller.now.state c.args.object.now.id t) step (gives refl))))

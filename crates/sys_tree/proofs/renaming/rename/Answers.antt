@@ -54,27 +54,20 @@ returns-in_err-dir-clause-played c =
 pub returns-in_err-into-clause-played : goal.returns-in_err-into-clause-played
 returns-in_err-into-clause-played c =
     let s = c.args.shared.now in
-    let who = c.args.who.now in
     let same = c.new-caller.ensures.caller in
-    let to = c.args.to.now in
-    let id = c.in_ok-dir.object.id in
-    entry_plays s who same c.args.path.now (move_to s (process_at s who) to) c.in_ok-dir.ensures.step
-    (stops_row {rest = move_over s (process_at s who) to (c.in_ok-dir.dir, c.in_ok-dir.name, id)} c.from_residual-in_err-into.result c.from_residual-in_err-into.ensures.1 refl
-    (step_called (λ k. target_entry k.state k.process to id) same c.in_err-into.ensures.step))
+    entry_plays s c.args.who.now same c.args.path.now (move_to s (process_at s c.args.who.now) c.args.to.now) c.in_ok-dir.ensures.step
+    (stops_row {rest = move_over s (process_at s c.args.who.now) c.args.to.now (c.in_ok-dir.dir, c.in_ok-dir.name, c.in_ok-dir.object.id)} c.from_residual-in_err-into.result c.from_residual-in_err-into.ensures.1 refl
+    (step_called (λ k. target_entry k.state k.process c.args.to.now c.in_ok-dir.object.id) same c.in_err-into.ensures.step))
 
 pub returns-in_err-moves-clause-played : goal.returns-in_err-moves-clause-played
 returns-in_err-moves-clause-played c =
     let s = c.args.shared.now in
-    let who = c.args.who.now in
     let same = c.new-caller.ensures.caller in
-    let to = c.args.to.now in
-    let dir = c.in_ok-dir.dir in
-    let name = c.in_ok-dir.name in
     let id = c.in_ok-dir.object.id in
-    entry_plays s who same c.args.path.now (move_to s (process_at s who) to) c.in_ok-dir.ensures.step
-    (to_target s who same to dir name id c.in_ok-into.ensures.step
-    (stops_row {rest = if_moves (move_row s dir name id c.in_ok-into.into c.in_ok-into.new)} c.from_residual-in_err-moves.result c.from_residual-in_err-moves.ensures.1 refl
-    (step_called (λ k. target_left k to id c.in_ok-into.target) same (c.in_err-moves.ensures c.in_ok-dir.ensures.object))))
+    entry_plays s c.args.who.now same c.args.path.now (move_to s (process_at s c.args.who.now) c.args.to.now) c.in_ok-dir.ensures.step
+    (to_target s c.args.who.now same c.args.to.now c.in_ok-dir.dir c.in_ok-dir.name id c.in_ok-into.ensures.step
+    (stops_row {rest = if_moves (move_row s c.in_ok-dir.dir c.in_ok-dir.name id c.in_ok-into.into c.in_ok-into.new)} c.from_residual-in_err-moves.result c.from_residual-in_err-moves.ensures.1 refl
+    (step_called (λ k. target_left k c.args.to.now id c.in_ok-into.target) same (c.in_err-moves.ensures c.in_ok-dir.ensures.object))))
 
 pub returns-then-moves-clause-played : goal.returns-then-moves-clause-played
 returns-then-moves-clause-played c =

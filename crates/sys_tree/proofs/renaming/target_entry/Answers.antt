@@ -7,32 +7,24 @@ use Rattle.sys_tree.proofs.renaming.target_entry.Goals as goal
 
 pub returns-in_err-dir-clause-step : goal.returns-in_err-dir-clause-step
 returns-in_err-dir-clause-step c =
-    let s = c.args.caller.now.state in
-    let p = c.args.caller.now.process in
-    let id = c.args.id.now in
-    then_goes {next = target_found s p c.args.to.now id} c.in_ok-walk.ensures.step
-    (stops_there {next = λ e rest. write_end s p c.args.to.now id e.0 (rest e)} c.from_residual-in_err-dir.result c.from_residual-in_err-dir.ensures.1 (c.in_err-dir.ensures.step c.walk.new.checks))
+    let k = c.args.caller.now in
+    then_goes {next = target_found k.state k.process c.args.to.now c.args.id.now} c.in_ok-walk.ensures.step
+    (stops_there {next = λ e rest. write_end k.state k.process c.args.to.now c.args.id.now e.0 (rest e)} c.from_residual-in_err-dir.result c.from_residual-in_err-dir.ensures.1 (c.in_err-dir.ensures.step c.walk.new.checks))
 
 pub returns-in_err-write_directory-clause-step : goal.returns-in_err-write_directory-clause-step
 returns-in_err-write_directory-clause-step c =
-    let s = c.args.caller.now.state in
-    let p = c.args.caller.now.process in
-    let id = c.args.id.now in
-    let dir = c.in_ok-dir.dir in
-    then_goes {next = target_found s p c.args.to.now id} c.in_ok-walk.ensures.step
-    (then_goes {next = λ e rest. write_end s p c.args.to.now id e.0 (rest e)} (c.in_ok-dir.ensures.step c.walk.new.checks)
-    (item_stops (write_end s p c.args.to.now id dir) c.from_residual-in_err-write_directory.result c.from_residual-in_err-write_directory.ensures.1
-    (equal_directory (write_directory s p dir) s id dir c.dir_place-place.ensures c.held_order.ensures c.in_err-write_directory.ensures)))
+    let k = c.args.caller.now in
+    then_goes {next = target_found k.state k.process c.args.to.now c.args.id.now} c.in_ok-walk.ensures.step
+    (then_goes {next = λ e rest. write_end k.state k.process c.args.to.now c.args.id.now e.0 (rest e)} (c.in_ok-dir.ensures.step c.walk.new.checks)
+    (item_stops (write_end k.state k.process c.args.to.now c.args.id.now c.in_ok-dir.dir) c.from_residual-in_err-write_directory.result c.from_residual-in_err-write_directory.ensures.1
+    (equal_directory (write_directory k.state k.process c.in_ok-dir.dir) k.state c.args.id.now c.in_ok-dir.dir c.dir_place-place.ensures c.held_order.ensures c.in_err-write_directory.ensures)))
 
 pub returns-clause-step : goal.returns-clause-step
 returns-clause-step c =
-    let s = c.args.caller.now.state in
-    let p = c.args.caller.now.process in
-    let id = c.args.id.now in
-    let dir = c.in_ok-dir.dir in
-    then_goes {next = target_found s p c.args.to.now id} c.in_ok-walk.ensures.step
-    (then_goes {next = λ e rest. write_end s p c.args.to.now id e.0 (rest e)} (c.in_ok-dir.ensures.step c.walk.new.checks)
-    (item_goes (write_end s p c.args.to.now id dir) (equal_directory (write_directory s p dir) s id dir c.dir_place-place.ensures c.held_order.ensures c.in_ok-write_directory.ensures) (gives refl)))
+    let k = c.args.caller.now in
+    then_goes {next = target_found k.state k.process c.args.to.now c.args.id.now} c.in_ok-walk.ensures.step
+    (then_goes {next = λ e rest. write_end k.state k.process c.args.to.now c.args.id.now e.0 (rest e)} (c.in_ok-dir.ensures.step c.walk.new.checks)
+    (item_goes (write_end k.state k.process c.args.to.now c.args.id.now c.in_ok-dir.dir) (equal_directory (write_directory k.state k.process c.in_ok-dir.dir) k.state c.args.id.now c.in_ok-dir.dir c.dir_place-place.ensures c.held_order.ensures c.in_ok-write_directory.ensures) (gives refl)))
 
 pub returns-clause-entry : goal.returns-clause-entry
 returns-clause-entry c = c.in_ok-dir.ensures.entry c.args.caller.now.state _ c.in_ok-walk.ensures.found

@@ -15,21 +15,15 @@ returns-in_err-id c =
 pub returns-in_err-enter : goal.returns-in_err-enter
 returns-in_err-enter c =
     let s = c.args.shared.now in
-    let who = c.args.who.now in
     let same = c.new-caller.ensures.caller in
-    let id = c.in_ok-id.id in
-    let place = c.in_ok-id.place in
-    path_plays s who same c.args.path.now (go_to s who (process_at s who)) c.in_ok-id.ensures.step
-    (item_stops_row (enter s (process_at s who) id place) c.from_residual-in_err-enter.result c.from_residual-in_err-enter.ensures.1 refl
-    (step_called (λ k rest. enter k.state k.process id place (rest tt)) same c.in_err-enter.ensures.step))
+    path_plays s c.args.who.now same c.args.path.now (go_to s c.args.who.now (process_at s c.args.who.now)) c.in_ok-id.ensures.step
+    (item_stops_row (enter s (process_at s c.args.who.now) c.in_ok-id.id c.in_ok-id.place) c.from_residual-in_err-enter.result c.from_residual-in_err-enter.ensures.1 refl
+    (step_called (λ k rest. enter k.state k.process c.in_ok-id.id c.in_ok-id.place (rest tt)) same c.in_err-enter.ensures.step))
 
 pub returns : goal.returns
 returns c =
     let s = c.args.shared.now in
-    let who = c.args.who.now in
     let same = c.new-caller.ensures.caller in
-    let id = c.in_ok-id.id in
-    let place = c.in_ok-id.place in
-    path_plays s who same c.args.path.now (go_to s who (process_at s who)) c.in_ok-id.ensures.step
-    (item_plays (enter s (process_at s who) id place) (step_called (λ k rest. enter k.state k.process id place (rest tt)) same c.in_ok-enter.ensures.step)
+    path_plays s c.args.who.now same c.args.path.now (go_to s c.args.who.now (process_at s c.args.who.now)) c.in_ok-id.ensures.step
+    (item_plays (enter s (process_at s c.args.who.now) c.in_ok-id.id c.in_ok-id.place) (step_called (λ k rest. enter k.state k.process c.in_ok-id.id c.in_ok-id.place (rest tt)) same c.in_ok-enter.ensures.step)
     (commits_as c.done.ensures c.change_directory.ensures))

@@ -21,6 +21,6 @@ returns c =
     on_ok_weaker c.enter-2.result (λ made due. elim due as (λ _. IsUnderDue s c.enter-2.new.self c.args.goal.now) [
       | inl given_up ↦ inl (c.enter-2.ensures.complete ∙ c.in_ok-enter.ensures.complete ∙ given_up)
       | inr lies ↦ inr (child_due s c.enter.new.self.due.items c.enter-2.new.self.due.items c.in-Some.due.dir c.in-Some.due.place c.in-Some-object_at.child c.len.result c.args.goal.now
-          (sym c.object_at.ensures ∙ c.in-Some-object_at.is) (sym c.same.ensures ∙ c.if-same.false) c.len.ensures made
+          (sym c.object_at.ensures ∙ c.in-Some-object_at.is) (sym c.is_same.ensures ∙ c.if-is_same.false) c.len.ensures made
           (looked s c.args.self.now.due.items c.pop.new.self.items c.enter.new.self.due.items c.in-Some.due c.args.goal.now c.in-Some.ensures.items c.in_ok-enter.ensures.due lies))
     ]) c.enter-2.ensures.due

@@ -27,7 +27,7 @@ up-init c = record {
 pub returns-then-left-eq0 : goal.returns-then-left-eq0
 returns-then-left-eq0 c =
     let s = state_of_tree c.args.self.now in
-    let other : same_oid c.up.current c.args.top.now ≡ false = sym c.same.ensures ∙ c.up-test.true in
+    let other : same_oid c.up.current c.args.top.now ≡ false = sym c.is_same.ensures ∙ c.up-test.true in
     elim c.then-left-eq0.branch [
       | then-left-eq0-via-then-left-eq0 w ↦ sym (c.up.invariant.same ∙ ap (λ (n : ℕ). is_under_within s n c.up.current c.args.top.now) w.if-left-eq0.true ∙ other)
       | then-left-eq0-via-else-left-eq0+then-is_over w ↦
@@ -42,7 +42,7 @@ returns-in_default c =
     let s = state_of_tree c.args.self.now in
     let here = c.up.current in
     let held : holder s here ≡ None = sym (holder-same (entries_alone c.self.inside.entries) s (ap (λ (t : TreeView). t.entries) c.self.view_is) here) ∙ sym c.holder.ensures ∙ c.in_default.is in
-    let other : same_oid here c.args.top.now ≡ false = sym c.same.ensures ∙ c.up-test.true in
+    let other : same_oid here c.args.top.now ≡ false = sym c.is_same.ensures ∙ c.up-test.true in
     let left : c.up.left ≡ suc (c.up.left - 1) = omega arith in
     sym (c.up.invariant.same ∙ under_holder s c.args.top.now c.up.left (c.up.left - 1) here None left other held)
 
@@ -51,7 +51,7 @@ up-preserved c =
     let s = state_of_tree c.args.self.now in
     let here = c.up.current in
     let held : holder s here ≡ Some c.in-Some.above = sym (holder-same (entries_alone c.self.inside.entries) s (ap (λ (t : TreeView). t.entries) c.self.view_is) here) ∙ sym c.holder.ensures ∙ c.in-Some.is in
-    let other : same_oid here c.args.top.now ≡ false = sym c.same.ensures ∙ c.up-test.true in
+    let other : same_oid here c.args.top.now ≡ false = sym c.is_same.ensures ∙ c.up-test.true in
     let left : c.up.left ≡ suc (c.up.left - 1) = omega arith in
     record {
       is_dir = subst (λ (t : TreeView). IsDir t.nodes.table.objects c.in-Some.above) c.self.view_is

@@ -12,27 +12,24 @@ use Rattle.kern_core.proofs.calls.auditing.switch.Goals as goal
 pub set_audited-requires : goal.set_audited-requires
 set_audited-requires c =
     let h = c.shared.inside in
-    let who = c.args.who.now in
-    let there = ap (λ (s : State). map.get s.procs who) c.shared.view_is ∙ process_there c.args.shared.now who c.requires in
-    let q = stands_in h.procs.procs h.fds.processes who _ there in
+    let there = ap (λ (s : State). map.get s.procs c.args.who.now) c.shared.view_is ∙ process_there c.args.shared.now c.args.who.now c.requires in
+    let q = stands_in h.procs.procs h.fds.processes c.args.who.now _ there in
     record { value = q.process; is = q.is }
 
 pub returns : goal.returns
 returns c =
     let h = c.shared.inside in
-    let who = c.args.who.now in
     let on = c.args.on in
-    let there = ap (λ (s : State). map.get s.procs who) c.shared.view_is ∙ process_there c.args.shared.now who c.requires in
-    let q = stands_in h.procs.procs h.fds.processes who _ there in
+    let there = ap (λ (s : State). map.get s.procs c.args.who.now) c.shared.view_is ∙ process_there c.args.shared.now c.args.who.now c.requires in
+    let q = stands_in h.procs.procs h.fds.processes c.args.who.now _ there in
     let set = c.set_audited.ensures q.process q.is in
     (λ i. record (state_of h) { procs = with_fds (set i).procs h.fds.processes; process_numbers = (set i).numbers })
-    ∙ (λ i. record (state_of h) { procs = with_fds-process h.procs.procs h.fds.processes who (record (q.process) { audited = on }) i })
-    ∙ (λ i. changed (c.shared.view_is i) (SetProcess who (record (q.same i) { audited = on })))
+    ∙ (λ i. record (state_of h) { procs = with_fds-process h.procs.procs h.fds.processes c.args.who.now (record (q.process) { audited = on }) i })
+    ∙ (λ i. changed (c.shared.view_is i) (SetProcess c.args.who.now (record (q.same i) { audited = on })))
 
 pub invariant_of-shared : goal.invariant_of-shared
 invariant_of-shared c =
     let h = c.shared.inside in
-    let who = c.args.who.now in
-    let there = ap (λ (s : State). map.get s.procs who) c.shared.view_is ∙ process_there c.args.shared.now who c.requires in
-    let q = stands_in h.procs.procs h.fds.processes who _ there in
-    subst (λ (t : ProcTable). ∥ HasOwners t.procs h.fds.processes ∥₁) (sym (c.set_audited.ensures q.process q.is)) (owners_process h.procs.procs h.fds.processes who (record (q.process) { audited = c.args.on }) c.shared.invariant)
+    let there = ap (λ (s : State). map.get s.procs c.args.who.now) c.shared.view_is ∙ process_there c.args.shared.now c.args.who.now c.requires in
+    let q = stands_in h.procs.procs h.fds.processes c.args.who.now _ there in
+    subst (λ (t : ProcTable). ∥ HasOwners t.procs h.fds.processes ∥₁) (sym (c.set_audited.ensures q.process q.is)) (owners_process h.procs.procs h.fds.processes c.args.who.now (record (q.process) { audited = c.args.on }) c.shared.invariant)

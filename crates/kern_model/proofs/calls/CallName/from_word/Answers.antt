@@ -5,4 +5,4 @@ use Rattle.kern_model.proofs.NamedLaws.{found_by, call_round_trip}
 use Rattle.kern_model.proofs.calls.CallName.from_word.Goals as goal
 
 pub returns-clause-exact : goal.returns-clause-exact
-returns-clause-exact c = found_by word_of all_calls c.args.word.now c.first_named.result call_round_trip (c.first_named.ensures ∙ c.alike.ensures)
+returns-clause-exact c = found_by word_of all_calls c.args.word.now c.first_named.result call_round_trip (c.first_named.ensures ∙ c.candidates.ensures)

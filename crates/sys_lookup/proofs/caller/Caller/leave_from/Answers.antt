@@ -1,5 +1,4 @@
 use Rattle.std.proofs.Common.{subst}
-use Rattle.kern_model.specs.Rules.{dac_write}
 use Rattle.kern_model.specs.Walk.{last_place}
 use Rattle.chk_rules.specs.RowSteps.{GoesOn}
 use Rattle.chk_rules.proofs.Steps.{need_goes, need_stops}
