@@ -1,5 +1,5 @@
 // The names and numbers, against a table.
-use cap_bits::{Cap, CapSet, CapState, Flag};
+use cap_bits::{Cap, CapSet, CapState, FileCaps, Flag};
 
 const TABLE: [(Cap, u8, &[u8]); 18] = [
     (Cap::Chown, 0, b"cap_chown"),
@@ -63,4 +63,25 @@ fn flags(rt: HostRuntime) {
     assert!(rt; !state.get_flag(Cap::Kill, Flag::Effective));
     state.set_flag(Cap::Kill, Flag::Permitted, false);
     assert!(rt; state == CapState::none());
+}
+
+// Whether a file can have this state, with this flag, and shows it.
+fn is_shown(state: &CapState, flag: bool) -> bool {
+    match FileCaps::from_state(state) {
+        Some(file) => file.eff == flag && file.shown() == *state,
+        None => false,
+    }
+}
+
+#[test]
+fn files(rt: HostRuntime) {
+    let none = CapSet::none();
+    let p = none.with(Cap::Chown).with(Cap::Kill);
+    let i = none.with(Cap::Setgid).with(Cap::Setuid);
+    let e = p.union(i);
+    assert!(rt; is_shown(&CapState { e, i, p }, true));
+    assert!(rt; is_shown(&CapState { e: none, i, p }, false));
+    assert!(rt; is_shown(&CapState::none(), false));
+    assert!(rt; FileCaps::from_state(&CapState { e: p, i, p }).is_none());
+    assert!(rt; FileCaps::none().shown() == CapState::none());
 }
