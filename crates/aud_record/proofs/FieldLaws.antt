@@ -38,7 +38,7 @@ use Rattle.kern_model.specs.declared.checks.Thing.{Thing}
 use Rattle.kern_model.specs.declared.checks.Thing.TheVariants as thing
 use Rattle.kern_model.specs.declared.numbers.Oid.{Oid}
 use Rattle.kern_model.specs.declared.numbers.Pid.{Pid}
-use Rattle.kern_model.specs.Named.{named}
+use Rattle.kern_model.specs.Named.{find_named}
 use Rattle.kern_model.proofs.NamedLaws.{named_is, call_round_trip, check_round_trip, errno_round_trip}
 use Rattle.line_text.proofs.CapWords.{caps_text_bytes}
 use Rattle.line_text.specs.Ranges.{are_bytes}
@@ -50,7 +50,7 @@ use Rattle.aud_record.specs.Forms.{Choice, first_of, other_of, OnOrOff, ExitOrKi
 use Rattle.aud_record.proofs.ListedLaws.{event_round_trip, cap_round_trip}
 use Rattle.aud_record.proofs.Numbers.{same_itself, same_is, number_is, number_round_trip}
 use Rattle.aud_record.proofs.Quoted.{unquoted_bytes, quoted_unquoted}
-use Rattle.aud_record.specs.Canonical.{canonical_number, canonical_label, canonical_numbered, canonical_pid, canonical_oid, after_prefix, canonical_thing, label_given, canonical_new_label, canonical_step, canonical_place, unquoted, canonical_bytes, canonical_caps}
+use Rattle.aud_record.specs.Canonical.{canonical_number, canonical_label, canonical_numbered, canonical_pid, canonical_oid, after_prefix, canonical_thing, label_given, canonical_new_label, canonical_step, canonical_place, bytes_of_quoted, canonical_bytes, canonical_caps}
 use Rattle.aud_record.proofs.WordLaws.{lacks, lacks-append, split_round_trip, split_is, IsWord}
 use Rattle.aud_record.specs.declared.canonical.NewLabel.{NewLabel}
 use Rattle.aud_record.specs.declared.canonical.NewLabel.TheVariants as new
@@ -301,7 +301,7 @@ place_round_trip place.Caller fits = refl
 bytes_is : (word bytes : List ℕ) → canonical_bytes word ≡ Some bytes → Spells word (quoted_text bytes) (are_bytes bytes)
 unfolding canonical_bytes
 bytes_is word bytes h =
-    option_and_then_some (λ bytes. keep_if (same_bytes (quoted_text bytes) word) bytes) (unquoted word) bytes h (λ parsed some kept.
+    option_and_then_some (λ bytes. keep_if (same_bytes (quoted_text bytes) word) bytes) (bytes_of_quoted word) bytes h (λ parsed some kept.
     let is = cond_some (same_bytes (quoted_text parsed) word) parsed bytes kept in
     subst (λ x. Spells word (quoted_text x) (are_bytes x)) is.1 (record { text_is = sym (same_is (quoted_text parsed) word is.0); fit = unquoted_bytes word parsed some }))
 
@@ -313,7 +313,7 @@ bytes_round_trip bytes fits =
 caps_is : (word : List ℕ) (caps : CapState) → canonical_caps word ≡ Some caps → Spells word (caps_word caps) true
 unfolding canonical_caps
 caps_is word caps h =
-    option_and_then_some (λ caps. keep_if (same_bytes (caps_word caps) word) caps) (option_and_then (λ bytes. result_ok (parse_caps bytes)) (unquoted word)) caps h (λ parsed some kept.
+    option_and_then_some (λ caps. keep_if (same_bytes (caps_word caps) word) caps) (option_and_then (λ bytes. result_ok (parse_caps bytes)) (bytes_of_quoted word)) caps h (λ parsed some kept.
     let is = cond_some (same_bytes (caps_word parsed) word) parsed caps kept in
     subst (λ x. Spells word (caps_word x) true) is.1 (record { text_is = sym (same_is (caps_word parsed) word is.0); fit = refl }))
 
@@ -348,7 +348,7 @@ choice_round_trip TermOrKill false = refl
 
 -- ---- all fields
 
-listed_is : {X : Type 0} (word_of : X → List ℕ) (values : List X) (word : List ℕ) (x : X) → named word_of values word ≡ Some x → Spells word (word_of x) true
+listed_is : {X : Type 0} (word_of : X → List ℕ) (values : List X) (word : List ℕ) (x : X) → find_named word_of values word ≡ Some x → Spells word (word_of x) true
 listed_is word_of values word x h = record { text_is = named_is word_of values word x h; fit = refl }
 
 -- a word that denotes a value is its word, and the value fits

@@ -9,7 +9,7 @@ use Rattle.kern_model.specs.declared.records.Rec.{Rec}
 use Rattle.aud_record.proofs.FieldLaws.{field_text, field_fits, is_wide, canonical_is, canonical_round_trip, field_word}
 use Rattle.aud_record.specs.Forms.{Of, is_listed, canonical, Form, Done, Next, parse_form}
 use Rattle.aud_record.proofs.WordLaws.{lacks, lacks-append, IsWord, first_round_trip, after_round_trip, word_lacks}
-use Rattle.aud_record.specs.Words.{◌>>=◌, first_word, after_word, after_space, ended, worded, parse_word, parse_field}
+use Rattle.aud_record.specs.Words.{◌>>=◌, first_word, after_word, after_space, value_at_end, value_and_rest, parse_word, parse_field}
 use Rattle.aud_record.specs.declared.fault.Fault.{Fault}
 use Rattle.aud_record.specs.declared.fault.Fault.TheVariants as fault
 use Rattle.fs_path.proofs.RoundTrip.{spaces_apart}
@@ -25,7 +25,7 @@ bound_is (Err e) f y h = absurd (cc)
 pub word_round_trip : {X : Type 0} (listed : Bool) (parsed : List ℕ → Option X) (word rest : List ℕ) (x : X) → IsWord word → is_apart rest ≡ true → parsed word ≡ Some x → parse_word listed parsed (word ++ rest) ≡ Ok (x, rest)
 unfolding parse_word
 word_round_trip listed parsed word rest x is ends h =
-    ap (worded listed (word ++ rest)) (ap parsed (first_round_trip word rest is ends) ∙ h) ∙ ap (λ (t : List ℕ). Ok (x, t)) (after_round_trip word rest is ends)
+    ap (value_and_rest listed (word ++ rest)) (ap parsed (first_round_trip word rest is ends) ∙ h) ∙ ap (λ (t : List ℕ). Ok (x, t)) (after_round_trip word rest is ends)
 
 pub field_round_trip : {X : Type 0} (listed : Bool) (parsed : List ℕ → Option X) (word rest : List ℕ) (x : X) → IsWord word → is_apart rest ≡ true → parsed word ≡ Some x → parse_field listed parsed (32 ∷ word ++ rest) ≡ Ok (x, rest)
 unfolding parse_field after_space
@@ -41,7 +41,7 @@ pub word_is : {X : Type 0} (listed : Bool) (parsed : List ℕ → Option X) (tex
 unfolding parse_word
 word_is {X} listed parsed text rest x h = by_parsed (parsed (first_word text)) refl h
   where
-    by_parsed : (o : Option X) → parsed (first_word text) ≡ o → worded listed text o ≡ Ok (x, rest) → Reads parsed text rest x
+    by_parsed : (o : Option X) → parsed (first_word text) ≡ o → value_and_rest listed text o ≡ Ok (x, rest) → Reads parsed text rest x
     by_parsed None e h = absurd (cc)
     by_parsed (Some y) e h = let same : ◌≡◌ {A = X × List ℕ} (y, after_word text) (x, rest) = cc in record { word = first_word text; says = e ∙ (λ i. Some (same i).0); parts = sym (take-append-drop _ text) ∙ (λ i. first_word text ++ (same i).1) }
 
@@ -92,7 +92,7 @@ IsWide (Next f more) = (is_wide f ≡ true) × ((v : Of f) → IsWide (more v))
 
 -- the words of values that fit are read as the record that they make
 pub form_round_trip : (p : PolicyNames) (form : Form) (vs : Values form) → MakePolicy p → IsWide form → values_fit p form vs ≡ true → parse_form p form (after_spaces (words_in p form vs)) ≡ Ok (record_of form vs)
-unfolding ended
+unfolding value_at_end
 form_round_trip p (Done r) vs h wide fit = refl
 form_round_trip p (Next f more) vs h wide fit =
     let parts = and_parts (field_fits p f vs.0) (values_fit p (more vs.0) vs.1) fit in
@@ -116,7 +116,7 @@ pub record IsFormed (p : PolicyNames) (form : Form) (left : List ℕ) (r : Rec) 
   pub makes : record_of form values ≡ r
 
 pub form_is : (p : PolicyNames) (form : Form) (left : List ℕ) (r : Rec) → parse_form p form left ≡ Ok r → IsFormed p form left r
-unfolding ended
+unfolding value_at_end
 form_is p (Done r') [] r h = record { values = tt; fit = refl; text = refl; makes = cc }
 form_is p (Done r') (b ∷ bs) r h = absurd (cc)
 form_is p (Next f more) left r h =

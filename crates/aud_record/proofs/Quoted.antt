@@ -7,11 +7,11 @@ use Rattle.std.proofs.lemmas.Bool.{and_parts, and_from, cond_both, eqb-true, leb
 use Rattle.std.proofs.lemmas.List.{append-nil}
 use Rattle.fs_path.proofs.RoundTrip.{line_round_trip}
 use Rattle.fs_path.specs.Split.{onto_piece}
-use Rattle.fs_path.specs.Words.{is_plain, is_bare, is_apart, hex_value, hex_pair, escaped, first_item, items_within, items_of, quoted_word, leading_word, apart, first_word, trim_spaces, words_by, words_of, quoted_text, has_spelling}
+use Rattle.fs_path.specs.Words.{is_plain, is_bare, is_apart, hex_value, hex_pair, escape_value, first_item, items_within, items_of, quoted_word, leading_word, apart, first_word, trim_spaces, words_by, words_of, quoted_text, has_spelling}
 use Rattle.fs_path.proofs.WordSteps.{words_are}
 use Rattle.fs_path.specs.declared.words.LineWord.{LineWord}
 use Rattle.line_text.specs.Ranges.{are_bytes}
-use Rattle.aud_record.specs.Canonical.{only_quoted, unquoted}
+use Rattle.aud_record.specs.Canonical.{only_quoted, bytes_of_quoted}
 use Rattle.std.proofs.lemmas.Option.{cond_some}
 
 -- ---- bytes that are read
@@ -44,7 +44,7 @@ pair_byte (h ∷ l ∷ rest) = by_values (hex_value h) (hex_value l) (hex_small 
     by_values (Some high) None h k = tt
     by_values (Some high) (Some low) h k = omega arith
 
-escape_byte : (text : List ℕ) → IsByte (escaped text)
+escape_byte : (text : List ℕ) → IsByte (escape_value text)
 escape_byte [] = tt
 escape_byte (b ∷ bs) = cond_both (b == 34 || b == 92) (Some (b, bs)) (cond (b == 120) (hex_pair bs) None) IsByte
     (λ mark. elim (or_cases (b == 34) (b == 92) mark) [ inl quote ↦ let is = eqb-true b 34 quote in omega arith | inr slash ↦ let is = eqb-true b 92 slash in omega arith ])
@@ -59,7 +59,7 @@ plain_small b plain =
 
 item_byte : (text : List ℕ) → IsByte (first_item text)
 item_byte [] = tt
-item_byte (b ∷ bs) = cond_both (b == 92) (escaped bs) (cond (is_plain b) (Some (b, bs)) None) IsByte (λ _. escape_byte bs)
+item_byte (b ∷ bs) = cond_both (b == 92) (escape_value bs) (cond (is_plain b) (Some (b, bs)) None) IsByte (λ _. escape_byte bs)
     (λ _. cond_both (is_plain b) (Some (b, bs)) None IsByte (λ plain. plain_small b plain) (λ _. tt))
 
 -- items denote bytes
@@ -126,8 +126,8 @@ words_bytes (b ∷ bs) = by_word (first_word (b ∷ bs)) (first_bytes (b ∷ bs)
     by_word None all = tt
     by_word (Some p) all = by_rest p (words_of p.1) all
 
-pub unquoted_bytes : (word bytes : List ℕ) → unquoted word ≡ Some bytes → are_bytes bytes ≡ true
-unfolding unquoted
+pub unquoted_bytes : (word bytes : List ℕ) → bytes_of_quoted word ≡ Some bytes → are_bytes bytes ≡ true
+unfolding bytes_of_quoted
 unquoted_bytes word bytes h = by_words (words_of word) (subst OnlyBytes (sym (words_are word)) (words_bytes (trim_spaces word))) h
   where
     by_words : (o : Option (List LineWord)) → OnlyBytes o → option_and_then only_quoted o ≡ Some bytes → are_bytes bytes ≡ true
@@ -138,8 +138,8 @@ unquoted_bytes word bytes h = by_words (words_of word) (subst OnlyBytes (sym (wo
 
 -- ---- the round trip of a quoted text
 
-pub quoted_unquoted : (bytes : List ℕ) → are_bytes bytes ≡ true → unquoted (quoted_text bytes) ≡ Some bytes
-unfolding unquoted
+pub quoted_unquoted : (bytes : List ℕ) → are_bytes bytes ≡ true → bytes_of_quoted (quoted_text bytes) ≡ Some bytes
+unfolding bytes_of_quoted
 quoted_unquoted bytes all =
     let word : LineWord = record { quoted = true; bytes = bytes } in
     ap (option_and_then only_quoted) (ap words_of (sym (append-nil (quoted_text bytes))) ∙ line_round_trip (word ∷ []) (and_from (has_spelling word) true all refl))

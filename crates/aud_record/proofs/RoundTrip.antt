@@ -10,7 +10,7 @@ use Rattle.fs_path.specs.Words.{after_spaces, line_text}
 use Rattle.lab_text.specs.Policy.{PolicyNames, MakePolicy}
 use Rattle.kern_model.specs.declared.numbers.Pid.{Pid}
 use Rattle.kern_model.specs.declared.records.Rec.{Rec}
-use Rattle.kern_model.specs.Named.{named}
+use Rattle.kern_model.specs.Named.{find_named}
 use Rattle.line_text.specs.Words.{pid_text}
 use Rattle.kern_model.specs.Records.{who_of}
 use Rattle.aud_record.specs.Events.{event_of, event_word, all_events}
@@ -39,7 +39,7 @@ abbrev from_kind : PolicyNames → ℕ → Event × List ℕ → Result (ℕ × 
 from_kind p call x = parse_field false (canonical_pid p) x.1 >>= from_who p call x.0
 
 abbrev from_call : PolicyNames → ℕ × List ℕ → Result (ℕ × Rec) Fault
-from_call p x = parse_field true (named event_word all_events) x.1 >>= from_kind p x.0
+from_call p x = parse_field true (find_named event_word all_events) x.1 >>= from_kind p x.0
 
 -- ---- the round trip of a record
 
@@ -71,7 +71,7 @@ line_round_trip p call r h small fits =
     let rest = after_spaces (rest_words p r) in
     let after_kind = after_spaces (pid_text p (who_of r) ∷ rest_words p r) in
     ap (λ (x : Result (ℕ × List ℕ) Fault). x >>= from_call p) (word_round_trip false (canonical_number (2 ^ 64)) (decimal call) (after_spaces (rec_words p r)) call (inl (decimal_bare call small)) refl (number_round_trip (2 ^ 64) call small small))
-    ∙ ap (λ (x : Result (Event × List ℕ) Fault). x >>= from_kind p call) (field_round_trip true (named event_word all_events) (event_word (event_of r)) after_kind (event_of r) (field_word p Kind (event_of r) h refl refl) refl (canonical_round_trip p Kind (event_of r) h refl refl))
+    ∙ ap (λ (x : Result (Event × List ℕ) Fault). x >>= from_kind p call) (field_round_trip true (find_named event_word all_events) (event_word (event_of r)) after_kind (event_of r) (field_word p Kind (event_of r) h refl refl) refl (canonical_round_trip p Kind (event_of r) h refl refl))
     ∙ ap (λ (x : Result (Pid × List ℕ) Fault). x >>= from_who p call (event_of r)) (field_round_trip false (canonical_pid p) (pid_text p (who_of r)) rest (who_of r) (field_word p Process (who_of r) h refl parts.0) (spaces_apart (rest_words p r)) (canonical_round_trip p Process (who_of r) h refl parts.0))
     ∙ ap (λ (x : Result Rec Fault). x >>= λ r. Ok (call, r)) (rest_round_trip p r h parts.1)
 
@@ -107,7 +107,7 @@ parts_are parts number space kind_parts kind second_space who_parts who rest = p
 
 -- a line whose words are read is the line of the record that they make
 line_made : (p : PolicyNames) (line left after_kind rest : List ℕ) (call : ℕ) (e : Event) (who : Pid) (r : Rec) → Reads (canonical_number (2 ^ 64)) line left call
-    → (text : List ℕ) × (left ≡ 32 ∷ text) × Reads (named event_word all_events) text after_kind e → (text : List ℕ) × (after_kind ≡ 32 ∷ text) × Reads (canonical_pid p) text rest who → IsFormed p (form_of e who) rest r → IsLine p line call r
+    → (text : List ℕ) × (left ≡ 32 ∷ text) × Reads (find_named event_word all_events) text after_kind e → (text : List ℕ) × (after_kind ≡ 32 ∷ text) × Reads (canonical_pid p) text rest who → IsFormed p (form_of e who) rest r → IsLine p line call r
 unfolding rec_fits
 line_made p line left after_kind rest call e who r number kind about formed =
     let n = number_is (2 ^ 64) call number.word number.says in
@@ -125,13 +125,13 @@ line_is : (p : PolicyNames) (line : List ℕ) (call : ℕ) (r : Rec) → parse_l
 unfolding parse_line
 line_is p line call r h =
     let first = bound_is (parse_word false (canonical_number (2 ^ 64)) line) (from_call p) (call, r) h in
-    let second = bound_is (parse_field true (named event_word all_events) first.0.1) (from_kind p first.0.0) (call, r) first.2 in
+    let second = bound_is (parse_field true (find_named event_word all_events) first.0.1) (from_kind p first.0.0) (call, r) first.2 in
     let third = bound_is (parse_field false (canonical_pid p) second.0.1) (from_who p first.0.0 second.0.0) (call, r) second.2 in
     let last = bound_is (parse_form p (form_of second.0.0 third.0.0) third.0.1) (λ r. Ok (first.0.0, r)) (call, r) third.2 in
     let same : ◌≡◌ {A = ℕ × Rec} (first.0.0, last.0) (call, r) = cc in
     subst (λ (x : ℕ × Rec). IsLine p line x.0 x.1) {x = (first.0.0, last.0)} same
     (line_made p line first.0.1 second.0.1 third.0.1 first.0.0 second.0.0 third.0.0 last.0 (word_is false (canonical_number (2 ^ 64)) line first.0.1 first.0.0 first.1)
-    (field_is true (named event_word all_events) first.0.1 second.0.1 second.0.0 second.1) (field_is false (canonical_pid p) second.0.1 third.0.1 third.0.0 third.1) (form_is p (form_of second.0.0 third.0.0) third.0.1 last.0 last.1))
+    (field_is true (find_named event_word all_events) first.0.1 second.0.1 second.0.0 second.1) (field_is false (canonical_pid p) second.0.1 third.0.1 third.0.0 third.1) (form_is p (form_of second.0.0 third.0.0) third.0.1 last.0 last.1))
 
 -- the prefix of a text that is read is the line of the record, which fits
 pub record IsRead (p : PolicyNames) (text : List ℕ) (read : ReadRec) : Type 0 where

@@ -85,13 +85,13 @@ only_quoted (w ∷ []) = keep_if w.quoted w.bytes
 only_quoted (w ∷ v ∷ ws) = None
 
 -- the bytes that a quoted word stands for
-unfoldable pub unquoted : List ℕ → Option (List ℕ)
-unquoted word = option_and_then only_quoted (words_of word)
+unfoldable pub bytes_of_quoted : List ℕ → Option (List ℕ)
+bytes_of_quoted word = option_and_then only_quoted (words_of word)
 
 -- the bytes of which a quoted word is the one spelling
 unfoldable pub canonical_bytes : List ℕ → Option (List ℕ)
-canonical_bytes word = option_and_then (λ bytes. keep_if (same_bytes (quoted_text bytes) word) bytes) (unquoted word)
+canonical_bytes word = option_and_then (λ bytes. keep_if (same_bytes (quoted_text bytes) word) bytes) (bytes_of_quoted word)
 
 -- the capability state of which a quoted word is the one spelling
 unfoldable pub canonical_caps : List ℕ → Option CapState
-canonical_caps word = option_and_then (λ caps. keep_if (same_bytes (caps_word caps) word) caps) (option_and_then (λ bytes. result_ok (parse_caps bytes)) (unquoted word))
+canonical_caps word = option_and_then (λ caps. keep_if (same_bytes (caps_word caps) word) caps) (option_and_then (λ bytes. result_ok (parse_caps bytes)) (bytes_of_quoted word))

@@ -5,7 +5,7 @@ use Rattle.cap_bits.specs.declared.cap.Cap.{Cap}
 use Rattle.cap_bits.specs.declared.state.CapState.{CapState}
 use Rattle.lab_lattice.specs.Label.{Label}
 use Rattle.lab_text.specs.Policy.{PolicyNames}
-use Rattle.kern_model.specs.Named.{named, call_named, check_named, errno_named}
+use Rattle.kern_model.specs.Named.{find_named, call_named, check_named, errno_named}
 use Rattle.kern_model.specs.declared.calls.CallName.{CallName}
 use Rattle.kern_model.specs.declared.calls.Ending.TheVariants as ending
 use Rattle.kern_model.specs.declared.calls.Errno.{Errno}
@@ -19,7 +19,7 @@ use Rattle.kern_model.specs.declared.records.Rec.TheVariants as rec
 use Rattle.line_text.specs.Reading.{choice}
 use Rattle.aud_record.specs.Events.{event_word, all_events}
 use Rattle.aud_record.specs.Canonical.{canonical_number, canonical_label, canonical_pid, canonical_oid, canonical_thing, label_given, canonical_new_label, canonical_place, canonical_bytes, canonical_caps}
-use Rattle.aud_record.specs.Words.{◌>>=◌, ended, parse_field}
+use Rattle.aud_record.specs.Words.{◌>>=◌, value_at_end, parse_field}
 use Rattle.aud_record.specs.declared.canonical.NewLabel.{NewLabel}
 use Rattle.aud_record.specs.declared.event.Event.{Event}
 use Rattle.aud_record.specs.declared.event.Event.TheVariants as event
@@ -100,8 +100,8 @@ is_listed _ = false
 abbrev pub canonical : PolicyNames → (f : Field) → List ℕ → Option (Of f)
 canonical p (Number bound) = canonical_number bound
 canonical p (Either c) = choice (first_of c) (other_of c)
-canonical p Kind = named event_word all_events
-canonical p Capability = named cap_name all_caps
+canonical p Kind = find_named event_word all_events
+canonical p Capability = find_named cap_name all_caps
 canonical p Check = check_named
 canonical p Error = errno_named
 canonical p Call = call_named
@@ -156,5 +156,5 @@ form_of event.Note who = Next Bytes (λ bytes. Done (rec.Note who bytes))
 
 -- the record of a form
 abbrev pub parse_form : PolicyNames → Form → List ℕ → Result Rec Fault
-parse_form p (Done r) left = ended r left
+parse_form p (Done r) left = value_at_end r left
 parse_form p (Next f more) left = parse_field (is_listed f) (canonical p f) left >>= λ x. parse_form p (more x.0) x.1

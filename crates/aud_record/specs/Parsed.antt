@@ -3,7 +3,7 @@ use Rattle.std.specs.Prelude.{◌≡◌, ℕ, ◌+◌, ◌-◌, ◌^◌, Bool, t
 use Rattle.fs_path.specs.Split.{split_once}
 use Rattle.lab_text.specs.Policy.{PolicyNames}
 use Rattle.kern_model.specs.declared.records.Rec.{Rec}
-use Rattle.kern_model.specs.Named.{named}
+use Rattle.kern_model.specs.Named.{find_named}
 use Rattle.aud_record.specs.Events.{event_word, all_events}
 use Rattle.aud_record.specs.Fits.{has_valid_labels}
 use Rattle.aud_record.specs.Forms.{form_of, parse_form}
@@ -20,21 +20,21 @@ use Rattle.aud_record.specs.declared.reading.RecError.TheVariants as error
 unfoldable pub parse_line : PolicyNames → List ℕ → Result (ℕ × Rec) Fault
 parse_line p line = do
   call ← parse_word false (canonical_number (2 ^ 64)) line
-  kind ← parse_field true (named event_word all_events) call.1
+  kind ← parse_field true (find_named event_word all_events) call.1
   who ← parse_field false (canonical_pid p) kind.1
   r ← parse_form p (form_of kind.0 who.0) who.1
   Ok (call.0, r)
 
 -- the place of a fault in a line of so many bytes
-abbrev pub placed : ℕ → Fault → RecError
-placed len (fault.Syntax left) = error.Syntax (len - left)
-placed len (fault.UnknownWord left) = error.UnknownWord (len - left)
-placed len (fault.NoMemory e) = error.NoMemory e
+abbrev pub error_of_fault : ℕ → Fault → RecError
+error_of_fault len (fault.Syntax left) = error.Syntax (len - left)
+error_of_fault len (fault.UnknownWord left) = error.UnknownWord (len - left)
+error_of_fault len (fault.NoMemory e) = error.NoMemory e
 
 -- what a line with so many bytes gives
 abbrev pub line_read : ℕ → Result (ℕ × Rec) Fault → Result ReadRec RecError
 line_read len (Ok x) = Ok (record { call = x.0; rec = x.1; used = len + 1 })
-line_read len (Err f) = Err (placed len f)
+line_read len (Err f) = Err (error_of_fault len f)
 
 abbrev pub read_by : PolicyNames → Option (List ℕ × List ℕ) → Result ReadRec RecError
 read_by p None = Err error.Truncated

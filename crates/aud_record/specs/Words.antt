@@ -47,22 +47,22 @@ after_space [] = Err (fault.Syntax 0)
 after_space (b ∷ bs) = cond (is_space b) (Ok bs) (Err (fault.Syntax (length (b ∷ bs))))
 
 -- a value with which the line ends; a further word is at fault where it begins
-unfoldable pub ended : {X : Type 0} → X → List ℕ → Result X Fault
-ended x [] = Ok x
-ended x (b ∷ bs) = Err (fault.Syntax (cond (is_space b) (length bs) (length (b ∷ bs))))
+unfoldable pub value_at_end : {X : Type 0} → X → List ℕ → Result X Fault
+value_at_end x [] = Ok x
+value_at_end x (b ∷ bs) = Err (fault.Syntax (cond (is_space b) (length bs) (length (b ∷ bs))))
 
 -- the fault where the first word has no value: an unknown word where one of a list is due and a word is there
 unfoldable pub fault_of : Bool → List ℕ → Fault
 fault_of listed left = cond (listed && nat_lt 0 (length (first_word left))) (fault.UnknownWord (length left)) (fault.Syntax (length left))
 
 -- the value of the first word and what stands after it
-abbrev pub worded : {X : Type 0} → Bool → List ℕ → Option X → Result (X × List ℕ) Fault
-worded listed left (Some x) = Ok (x, after_word left)
-worded listed left None = Err (fault_of listed left)
+abbrev pub value_and_rest : {X : Type 0} → Bool → List ℕ → Option X → Result (X × List ℕ) Fault
+value_and_rest listed left (Some x) = Ok (x, after_word left)
+value_and_rest listed left None = Err (fault_of listed left)
 
 -- the first word, where words have these values
 unfoldable pub parse_word : {X : Type 0} → Bool → (List ℕ → Option X) → List ℕ → Result (X × List ℕ) Fault
-parse_word listed parsed left = worded listed left (parsed (first_word left))
+parse_word listed parsed left = value_and_rest listed left (parsed (first_word left))
 
 -- the word after a space
 unfoldable pub parse_field : {X : Type 0} → Bool → (List ℕ → Option X) → List ℕ → Result (X × List ℕ) Fault

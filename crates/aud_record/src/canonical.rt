@@ -3,8 +3,8 @@
 ghost use Rattle.std.specs.Prelude.{◌≡◌, ◌^◌, ◌≤◌, IfOk, MatchOption, Some, None};
 ghost use Rattle.std.specs.Option.{option_copied};
 ghost use Rattle.cap_bits.specs.Cap.{all_caps, cap_name};
-ghost use Rattle.kern_model.specs.Named.{named};
-ghost use Rattle.aud_record.specs.Canonical.{canonical_number, canonical_label, canonical_numbered, canonical_pid, canonical_oid, after_prefix, canonical_thing, label_given, canonical_new_label, canonical_step, canonical_place, unquoted, canonical_bytes, canonical_caps};
+ghost use Rattle.kern_model.specs.Named.{find_named};
+ghost use Rattle.aud_record.specs.Canonical.{canonical_number, canonical_label, canonical_numbered, canonical_pid, canonical_oid, after_prefix, canonical_thing, label_given, canonical_new_label, canonical_step, canonical_place, bytes_of_quoted, canonical_bytes, canonical_caps};
 
 use crate::NoMemory;
 use cap_bits::{Cap, CapState};
@@ -184,9 +184,9 @@ pub fn canonical_place(alloc: Global, word: &[u8]) -> Result<Option<Place>, NoMe
 }
 
 // The bytes that a quoted word stands for.
-#[tactic(auto, unfolding(crate::specs::Canonical::unquoted))]
-fn unquoted(alloc: Global, word: &[u8]) -> Result<Option<ByteList>, NoMemory>
-    ensures { IfOk result (λ parsed. parsed ≡ unquoted word.now) }
+#[tactic(auto, unfolding(crate::specs::Canonical::bytes_of_quoted))]
+fn bytes_of_quoted(alloc: Global, word: &[u8]) -> Result<Option<ByteList>, NoMemory>
+    ensures { IfOk result (λ parsed. parsed ≡ bytes_of_quoted word.now) }
 {
     let Some(words) = words_of(alloc, word)? else {
         return Ok(None);
@@ -202,7 +202,7 @@ fn unquoted(alloc: Global, word: &[u8]) -> Result<Option<ByteList>, NoMemory>
 pub fn canonical_bytes(alloc: Global, word: &[u8]) -> Result<Option<ByteList>, NoMemory>
     ensures { IfOk result (λ parsed. parsed ≡ canonical_bytes word.now) }
 {
-    let Some(bytes) = unquoted(alloc, word)? else {
+    let Some(bytes) = bytes_of_quoted(alloc, word)? else {
         return Ok(None);
     };
     let mut text = Vec::new(alloc);
@@ -215,7 +215,7 @@ pub fn canonical_bytes(alloc: Global, word: &[u8]) -> Result<Option<ByteList>, N
 pub fn canonical_caps(alloc: Global, word: &[u8]) -> Result<Option<CapState>, NoMemory>
     ensures { IfOk result (λ parsed. parsed ≡ canonical_caps word.now) }
 {
-    let Some(bytes) = unquoted(alloc, word)? else {
+    let Some(bytes) = bytes_of_quoted(alloc, word)? else {
         return Ok(None);
     };
     let Ok(caps) = cap_from_text(bytes.items()) else {
@@ -229,7 +229,7 @@ pub fn canonical_caps(alloc: Global, word: &[u8]) -> Result<Option<CapState>, No
 
 /// The capability with this name, in lower case alone.
 pub fn canonical_cap(word: &[u8]) -> Option<Cap>
-    ensures { result ≡ named cap_name all_caps word.now }
+    ensures { result ≡ find_named cap_name all_caps word.now }
 {
     let cap = Cap::from_name(word)?;
     (word == cap.name()).then_some(cap)

@@ -1,6 +1,6 @@
 // The kinds of records.
 ghost use Rattle.std.specs.Prelude.{◌≡◌};
-ghost use Rattle.kern_model.specs.Named.{named};
+ghost use Rattle.kern_model.specs.Named.{find_named};
 ghost use Rattle.kern_model.specs.Records.{who_of};
 ghost use Rattle.aud_record.specs.Events.{event_of, event_word, all_events};
 
@@ -40,9 +40,9 @@ const EVENTS: [Event; 12] = [
 
 impl Event {
     /// The kind of records with this word.
-    #[tactic(auto, unfolding(kern_model::specs::Named::named))]
+    #[tactic(auto, unfolding(kern_model::specs::Named::find_named))]
     pub fn from_word(word: &[u8]) -> Option<Event>
-        ensures { result ≡ named event_word all_events word.now }
+        ensures { result ≡ find_named event_word all_events word.now }
     {
         EVENTS.iter().copied().find(|event| word == event.word())
     }

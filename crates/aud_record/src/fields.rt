@@ -1,7 +1,7 @@
 // The reading of each kind of word that a record has.
 ghost use Rattle.std.specs.Prelude.{◌≡◌, ◌^◌, true, false};
 ghost use Rattle.cap_bits.specs.Cap.{all_caps, cap_name};
-ghost use Rattle.kern_model.specs.Named.{named, call_named, check_named, errno_named};
+ghost use Rattle.kern_model.specs.Named.{find_named, call_named, check_named, errno_named};
 ghost use Rattle.aud_record.specs.Events.{event_word, all_events};
 ghost use Rattle.aud_record.specs.Canonical.{canonical_number, canonical_label, canonical_pid, canonical_oid, canonical_thing, canonical_new_label, canonical_place, canonical_bytes, canonical_caps};
 ghost use Rattle.line_text.specs.Reading.{choice};
@@ -53,7 +53,7 @@ impl Words<'_> {
     /// The kind of a record.
     #[tactic(auto, unfolding(crate::specs::Words::parse_word, crate::specs::Words::parse_field))]
     pub fn event(&mut self) -> Result<Event, Fault>
-        ensures { Reads result (parse_field true (named event_word all_events) self.old.left.now) self.new.left.now }
+        ensures { Reads result (parse_field true (find_named event_word all_events) self.old.left.now) self.new.left.now }
     {
         let due = self.next()?;
         let parsed = Event::from_word(due.word);
@@ -63,7 +63,7 @@ impl Words<'_> {
     /// A capability.
     #[tactic(auto, unfolding(crate::specs::Words::parse_word, crate::specs::Words::parse_field))]
     pub fn cap(&mut self) -> Result<Cap, Fault>
-        ensures { Reads result (parse_field true (named cap_name all_caps) self.old.left.now) self.new.left.now }
+        ensures { Reads result (parse_field true (find_named cap_name all_caps) self.old.left.now) self.new.left.now }
     {
         let due = self.next()?;
         let parsed = canonical::canonical_cap(due.word);

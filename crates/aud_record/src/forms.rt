@@ -16,14 +16,14 @@ fn boot(alloc: Global, policy: &Policy, who: Pid, words: &mut Words) -> Result<R
 {
     let label = words.label(alloc, policy)?;
     let caps = words.caps(alloc)?;
-    words.ended(Rec::Boot { who, label, caps })
+    words.value_at_end(Rec::Boot { who, label, caps })
 }
 
 fn fork(alloc: Global, policy: &Policy, who: Pid, words: &mut Words) -> Result<Rec, Fault>
     ensures { AnswersAs is_no_memory (λ r. r) result (parse_form policy.now (form_of event.Fork who) words.old.left.now) }
 {
     let child = words.pid(alloc, policy)?;
-    words.ended(Rec::Fork { who, child })
+    words.value_at_end(Rec::Fork { who, child })
 }
 
 fn exec(alloc: Global, policy: &Policy, who: Pid, words: &mut Words) -> Result<Rec, Fault>
@@ -32,7 +32,7 @@ fn exec(alloc: Global, policy: &Policy, who: Pid, words: &mut Words) -> Result<R
     let file = words.oid(alloc, policy)?;
     let file_caps = words.caps(alloc)?;
     let caps = words.caps(alloc)?;
-    words.ended(Rec::Exec {
+    words.value_at_end(Rec::Exec {
         who,
         file,
         file_caps,
@@ -47,18 +47,18 @@ fn exit(alloc: Global, policy: &Policy, who: Pid, words: &mut Words) -> Result<R
     if exits {
         let code = words.status(alloc)?;
         let ending = Ending::Exit(code);
-        return words.ended(Rec::Exit { who, ending });
+        return words.value_at_end(Rec::Exit { who, ending });
     }
     let term = words.choice(b"TERM", b"KILL")?;
     let ending = if term { Ending::Term } else { Ending::Kill };
-    words.ended(Rec::Exit { who, ending })
+    words.value_at_end(Rec::Exit { who, ending })
 }
 
 fn cap_set_proc(alloc: Global, policy: &Policy, who: Pid, words: &mut Words) -> Result<Rec, Fault>
     ensures { AnswersAs is_no_memory (λ r. r) result (parse_form policy.now (form_of event.CapSetProc who) words.old.left.now) }
 {
     let caps = words.caps(alloc)?;
-    words.ended(Rec::CapSetProc { who, caps })
+    words.value_at_end(Rec::CapSetProc { who, caps })
 }
 
 fn cap_set_file(alloc: Global, policy: &Policy, who: Pid, words: &mut Words) -> Result<Rec, Fault>
@@ -66,7 +66,7 @@ fn cap_set_file(alloc: Global, policy: &Policy, who: Pid, words: &mut Words) -> 
 {
     let file = words.oid(alloc, policy)?;
     let caps = words.caps(alloc)?;
-    words.ended(Rec::CapSetFile { who, file, caps })
+    words.value_at_end(Rec::CapSetFile { who, file, caps })
 }
 
 fn mac_set_proc(alloc: Global, policy: &Policy, who: Pid, words: &mut Words) -> Result<Rec, Fault>
@@ -74,7 +74,7 @@ fn mac_set_proc(alloc: Global, policy: &Policy, who: Pid, words: &mut Words) -> 
 {
     let old = words.label(alloc, policy)?;
     let new = words.label(alloc, policy)?;
-    words.ended(Rec::MacSetProc { who, old, new })
+    words.value_at_end(Rec::MacSetProc { who, old, new })
 }
 
 fn mac_set_file(alloc: Global, policy: &Policy, who: Pid, words: &mut Words) -> Result<Rec, Fault>
@@ -83,7 +83,7 @@ fn mac_set_file(alloc: Global, policy: &Policy, who: Pid, words: &mut Words) -> 
     let object = words.oid(alloc, policy)?;
     let old = words.label(alloc, policy)?;
     let new = words.label(alloc, policy)?;
-    words.ended(Rec::MacSetFile {
+    words.value_at_end(Rec::MacSetFile {
         who,
         object,
         old,
@@ -101,7 +101,7 @@ fn exercise(alloc: Global, policy: &Policy, who: Pid, words: &mut Words) -> Resu
     let thing_label = words.label(alloc, policy)?;
     let new_label = words.new_label(alloc, policy)?.label();
     let place = words.place(alloc)?;
-    words.ended(Rec::Exercise(Exercise {
+    words.value_at_end(Rec::Exercise(Exercise {
         who,
         label,
         cap,
@@ -120,7 +120,7 @@ fn deny(alloc: Global, policy: &Policy, who: Pid, words: &mut Words) -> Result<R
     let errno = words.errno()?;
     let check = words.check()?;
     let place = words.place(alloc)?;
-    words.ended(Rec::Deny {
+    words.value_at_end(Rec::Deny {
         who,
         call,
         errno,
@@ -133,14 +133,14 @@ fn switch(policy: &Policy, who: Pid, words: &mut Words) -> Result<Rec, Fault>
     ensures { AnswersAs is_no_memory (λ r. r) result (parse_form policy.now (form_of event.Switch who) words.old.left.now) }
 {
     let on = words.choice(b"on", b"off")?;
-    words.ended(Rec::Switch { who, on })
+    words.value_at_end(Rec::Switch { who, on })
 }
 
 fn note(alloc: Global, policy: &Policy, who: Pid, words: &mut Words) -> Result<Rec, Fault>
     ensures { AnswersAs is_no_memory (λ r. r) result (parse_form policy.now (form_of event.Note who) words.old.left.now) }
 {
     let bytes = words.bytes(alloc)?;
-    words.ended(Rec::Note { who, bytes })
+    words.value_at_end(Rec::Note { who, bytes })
 }
 
 /// The record of a kind that is about a process.

@@ -3,7 +3,7 @@ ghost use Rattle.std.specs.Prelude.{◌≡◌, ℕ, true, List, ◌++◌, ◌≤
 ghost use Rattle.kern_model.specs.declared.records.Rec.{Rec};
 ghost use Rattle.aud_record.specs.Fits.{has_valid_labels, IsInRange};
 ghost use Rattle.aud_record.specs.Results.{AnswersAs};
-ghost use Rattle.aud_record.specs.Parsed.{BeginsWithRec, is_no_memory, parse_line, placed, parse_rec, read_of};
+ghost use Rattle.aud_record.specs.Parsed.{BeginsWithRec, is_no_memory, parse_line, error_of_fault, parse_rec, read_of};
 ghost use Rattle.aud_record.specs.Words.{is_no_memory as is_line_memory};
 ghost use Rattle.aud_record.specs.Written.{rec_text};
 
@@ -63,8 +63,8 @@ fn read_line(alloc: Global, policy: &Policy, line: &[u8]) -> Result<(u64, Rec), 
 }
 
 // A fault with its place in a line of so many bytes.
-fn placed(len: usize, fault: Fault) -> RecError
-    ensures { result ≡ placed len fault }
+fn error_of_fault(len: usize, fault: Fault) -> RecError
+    ensures { result ≡ error_of_fault len fault }
 {
     match fault {
         Fault::Syntax(left) => RecError::Syntax(len.saturating_sub(left)),
@@ -80,7 +80,10 @@ fn first_record(alloc: Global, policy: &Policy, text: &[u8]) -> Result<ReadRec, 
     ensures within { IfOk result (λ read. read.used ≤ length text.now) }
 {
     let (line, _) = next_line(text).ok_or(RecError::Truncated)?;
-    let (call, rec) = read_line(alloc, policy, line).map_err(|fault| placed(line.len(), fault))?;
+    let (call, rec) = read_line(alloc, policy, line).map_err(|fault| error_of_fault(
+        line.len(),
+        fault,
+    ))?;
     Ok(ReadRec {
         call,
         rec,

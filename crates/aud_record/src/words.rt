@@ -3,7 +3,7 @@ ghost use Rattle.std.specs.Prelude.{◌≡◌, ◌≤◌, not, false, true, leng
 ghost use Rattle.std.specs.List.{prefix_len};
 ghost use Rattle.fs_path.specs.Words.{is_space};
 ghost use Rattle.aud_record.specs.Results.{AnswersAs};
-ghost use Rattle.aud_record.specs.Words.{is_no_memory, Reads, quoted_len, word_len, first_word, after_word, after_space, ended, worded};
+ghost use Rattle.aud_record.specs.Words.{is_no_memory, Reads, quoted_len, word_len, first_word, after_word, after_space, value_at_end, value_and_rest};
 
 use crate::fault::Fault;
 
@@ -109,7 +109,7 @@ impl<'a> Words<'a> {
     /// The value of the word, if it has one. What stands after the word is left then.
     #[tactic(auto, unfolding(crate::specs::Words::fault_of))]
     pub fn or_syntax<T>(&mut self, due: Due<'a>, parsed: Option<T>) -> Result<T, Fault>
-        ensures { Reads result (worded false due.entry.left.now parsed) self.new.left.now }
+        ensures { Reads result (value_and_rest false due.entry.left.now parsed) self.new.left.now }
     {
         let value = parsed.ok_or(Fault::Syntax(due.left.len()))?;
         self.left = due.rest;
@@ -119,7 +119,7 @@ impl<'a> Words<'a> {
     /// The value of a word of a list, if it has one. What stands after the word is left then.
     #[tactic(auto, unfolding(crate::specs::Words::fault_of))]
     pub fn or_unknown<T>(&mut self, due: Due<'a>, parsed: Option<T>) -> Result<T, Fault>
-        ensures { Reads result (worded true due.entry.left.now parsed) self.new.left.now }
+        ensures { Reads result (value_and_rest true due.entry.left.now parsed) self.new.left.now }
     {
         if due.word.is_empty() {
             return self.or_syntax(due, parsed);
@@ -130,9 +130,9 @@ impl<'a> Words<'a> {
     }
 
     /// The value, if the line ends here.
-    #[tactic(auto, unfolding(crate::specs::Words::ended))]
-    pub fn ended<T: Drop>(&self, value: T) -> Result<T, Fault>
-        ensures { AnswersAs is_no_memory (λ x. x) result (ended value self.now.left.now) }
+    #[tactic(auto, unfolding(crate::specs::Words::value_at_end))]
+    pub fn value_at_end<T: Drop>(&self, value: T) -> Result<T, Fault>
+        ensures { AnswersAs is_no_memory (λ x. x) result (value_at_end value self.now.left.now) }
     {
         match self.left {
             [] => Ok(value),

@@ -8,7 +8,7 @@ use Rattle.cap_bits.specs.CapSet.{CapSet, no_caps, union_of, same_sets, is_empty
 unfoldable pub is_uniform : CapState → Bool
 is_uniform s = is_empty s.e || same_sets s.e (union_of s.p s.i)
 
--- what is raised only where something is there is off where nothing is
+-- a flag that is on only where a set is not empty is off where the set is empty
 pub off_where : (raised empty : Bool) → empty ≡ true → (raised && not empty) ≡ false
 off_where true true h = refl
 off_where false true h = refl
@@ -22,9 +22,13 @@ file_caps p i raised = record { p = p; i = i; eff = raised && not (is_empty (uni
 abbrev pub no_file_caps : FileCaps
 no_file_caps = file_caps no_caps no_caps false
 
--- what a file has by a state: its permitted and inheritable capabilities, with the flag where anything is effective
+-- the permitted and inheritable capabilities of a state, with the flag where anything is effective
+abbrev pub caps_by : CapState → FileCaps
+caps_by s = file_caps s.p s.i (not (is_empty s.e))
+
+-- what a file has by a state, if a file can have that state
 unfoldable pub file_caps_of : CapState → Option FileCaps
-file_caps_of s = if is_uniform s then Some (file_caps s.p s.i (not (is_empty s.e))) else None
+file_caps_of s = if is_uniform s then Some (caps_by s) else None
 
 -- the state by which a file has its capabilities: with the flag all are effective, and without it none
 abbrev pub shown : FileCaps → CapState

@@ -16,7 +16,7 @@ use Rattle.cap_bits.proofs.CapSets.{same_cap-decides, has-no_caps, has-union_of,
 use Rattle.cap_bits.specs.Laws.{same_sets-decides, same_caps}
 use Rattle.cap_bits.specs.declared.cap.Cap.{Cap}
 use Rattle.cap_bits.specs.declared.cap.Cap.TheVariants.{Chown, DacExecute, DacReadSearch, DacWrite, Fowner, Fsetid, Kill, LinkDir, Setfcap, Setgid, Setuid, MacDowngrade, MacRead, MacRelabelSubj, MacUpgrade, MacWrite, AuditControl, AuditWrite}
-use Rattle.fs_path.specs.Split.{placed}
+use Rattle.fs_path.specs.Split.{pieces_at}
 use Rattle.cap_clause.specs.Clauses.{first_fault, unless_fault, caps_named, piece_fault, with_piece, caps_listed, parse_list}
 use Rattle.cap_clause.proofs.Groups.{every_cap}
 use Rattle.cap_clause.proofs.Steps.{all_weaker, item_fine, without}
@@ -126,10 +126,10 @@ abbrev with_one : CapSet → Cap → CapSet
 with_one caps cap = union_of caps (with_cap no_caps cap)
 
 parse_names : (at : ℕ) (named : List Cap) (caps : CapSet)
-    → unless_fault (first_fault piece_fault (placed at (map cap_name named))) (fold with_piece caps (placed at (map cap_name named))) ≡ Ok (fold with_one caps named)
+    → unless_fault (first_fault piece_fault (pieces_at at (map cap_name named))) (fold with_piece caps (pieces_at at (map cap_name named))) ≡ Ok (fold with_one caps named)
 parse_names at [] caps = refl
 parse_names at (cap ∷ named) caps =
-    let rest = placed (at + length (cap_name cap) + 1) (map cap_name named) in
+    let rest = pieces_at (at + length (cap_name cap) + 1) (map cap_name named) in
     item_fine piece_fault with_piece caps (record { at = at; bytes = cap_name cap }) rest (ap (λ (o : Option CapSet). cond (is_some o) None (Some (error.UnknownName at))) (name_round_trip cap))
     ∙ ap (λ (o : Option CapSet). unless_fault (first_fault piece_fault rest) (fold with_piece (union_of caps (unwrap_or o no_caps)) rest)) (name_round_trip cap)
     ∙ parse_names (at + length (cap_name cap) + 1) named (with_one caps cap)
@@ -158,7 +158,7 @@ no_comma b is = let range = name_byte_range b is in not_from_false (b == 44) (ne
 parse_named : (at : ℕ) (caps : CapSet) → ListsSome caps → parse_list at (join_with_byte 44 (map cap_name (caps_of caps))) ≡ Ok caps
 unfolding parse_list
 parse_named at caps some =
-    ap (λ (ps : List (List ℕ)). unless_fault (first_fault piece_fault (placed at ps)) (caps_listed (placed at ps))) pieces
+    ap (λ (ps : List (List ℕ)). unless_fault (first_fault piece_fault (pieces_at at ps)) (caps_listed (pieces_at at ps))) pieces
     ∙ parse_names at (caps_of caps) no_caps ∙ ap Ok (named_round_trip caps)
   where
     pieces : slice_split is_comma (join_with_byte 44 (map cap_name (caps_of caps))) ≡ map cap_name (caps_of caps)

@@ -11,7 +11,7 @@ use Rattle.std.proofs.lemmas.List.Elements.{All-nil, All-cons}
 use Rattle.std.proofs.lemmas.List.Splits.{slice_split_at, slice_split_none}
 use Rattle.cap_bits.specs.CapSet.{CapSet, all_of_caps}
 use Rattle.cap_bits.specs.declared.state.CapState.{CapState}
-use Rattle.fs_path.specs.Split.{Piece, placed}
+use Rattle.fs_path.specs.Split.{Piece, pieces_at}
 use Rattle.cap_clause.specs.Clauses.{is_blank, operator_of, is_operator, flag_of, is_flag, has_bytes, clauses_of, pieces_of, first_fault, first_fault_or, unless_fault, piece_fault, caps_listed, Action, actions_in, needs_flag, action_fault, with_action, after_operator, first_operator, list_in, actions_fault, clause_fault_by, clause_fault, with_clause}
 use Rattle.cap_clause.specs.Reading.{parse_actions, parse_clause}
 use Rattle.cap_clause.specs.declared.action.Operator.{Operator}
@@ -68,15 +68,15 @@ without p (b ∷ bs) all =
 -- a blank at the start of a text is skipped
 pub clauses_blank : (at b : ℕ) (bs : List ℕ) → is_blank b ≡ true → clauses_of at (b ∷ bs) ≡ clauses_of (at + 1) bs
 unfolding clauses_of
-clauses_blank at b bs blank = ap (λ (ps : List (List ℕ)). filter has_bytes (placed at ps)) (cond-true (is_blank b) _ _ blank) ∙ ap (λ n. filter has_bytes (placed (n + 1) (slice_split is_blank bs))) (add-zero at)
+clauses_blank at b bs blank = ap (λ (ps : List (List ℕ)). filter has_bytes (pieces_at at ps)) (cond-true (is_blank b) _ _ blank) ∙ ap (λ n. filter has_bytes (pieces_at (n + 1) (slice_split is_blank bs))) (add-zero at)
 
 -- the bytes before the first blank are a clause
 pub clauses_next : (at b : ℕ) (bs rest : List ℕ) → list_all (λ c. not (is_blank c)) (b ∷ bs) ≡ true → Stops (λ c. not (is_blank c)) rest
     → clauses_of at ((b ∷ bs) ++ rest) ≡ record { at = at; bytes = b ∷ bs } ∷ clauses_of (at + length (b ∷ bs)) rest
 unfolding clauses_of
-clauses_next at b bs [] all stops = ap (λ (ps : List (List ℕ)). filter has_bytes (placed at ps)) (ap (slice_split is_blank) (append-nil (b ∷ bs)) ∙ slice_split_none is_blank (b ∷ bs) (without is_blank (b ∷ bs) all))
+clauses_next at b bs [] all stops = ap (λ (ps : List (List ℕ)). filter has_bytes (pieces_at at ps)) (ap (slice_split is_blank) (append-nil (b ∷ bs)) ∙ slice_split_none is_blank (b ∷ bs) (without is_blank (b ∷ bs) all))
 clauses_next at b bs (r ∷ rs) all stops =
-    ap (λ (ps : List (List ℕ)). filter has_bytes (placed at ps)) (slice_split_at is_blank (b ∷ bs) r rs (without is_blank (b ∷ bs) all) blank)
+    ap (λ (ps : List (List ℕ)). filter has_bytes (pieces_at at ps)) (slice_split_at is_blank (b ∷ bs) r rs (without is_blank (b ∷ bs) all) blank)
     ∙ ap (λ cs. record { at = at; bytes = b ∷ bs } ∷ cs) (sym (clauses_blank (at + length (b ∷ bs)) r rs blank))
   where
     blank : is_blank r ≡ true

@@ -14,7 +14,7 @@ use Rattle.cap_bits.specs.declared.cap.Cap.{Cap}
 use Rattle.cap_bits.specs.declared.state.CapState.{CapState}
 use Rattle.cap_bits.specs.declared.state.Flag.{Flag}
 use Rattle.cap_bits.specs.declared.state.Flag.TheVariants.{Effective, Inheritable, Permitted}
-use Rattle.fs_path.specs.Split.{placed}
+use Rattle.fs_path.specs.Split.{pieces_at}
 use Rattle.fs_path.specs.Words.{is_plain, is_bare}
 use Rattle.cap_clause.specs.Clauses.{is_blank, is_operator, flag_of, is_flag, are_some, has_bytes, clauses_of, pieces_of, caps_listed, first_fault_or, unless_fault, first_operator, after_operator, all_flags, clause_fault, with_clause, parse_list, first_fault, piece_fault}
 use Rattle.cap_clause.proofs.Groups.{same_from, has-group_of, assigned, assigned_none, groups_round_trip}
@@ -96,10 +96,10 @@ clause_round_trip at s t cap =
 
 -- ---- states
 
-clauses_round_trip : (at : ℕ) (s t : CapState) (caps : List Cap) → parse_clauses (placed at (map (group_text s) caps)) t ≡ Ok (fold (assigned s) t caps)
+clauses_round_trip : (at : ℕ) (s t : CapState) (caps : List Cap) → parse_clauses (pieces_at at (map (group_text s) caps)) t ≡ Ok (fold (assigned s) t caps)
 clauses_round_trip at s t [] = refl
 clauses_round_trip at s t (cap ∷ caps) =
-    let rest = placed (at + length (group_text s cap) + 1) (map (group_text s) caps) in
+    let rest = pieces_at (at + length (group_text s cap) + 1) (map (group_text s) caps) in
     clause_taken (record { at = at; bytes = group_text s cap }) rest t (assigned s t cap) (clause_round_trip at s t cap)
     ∙ clauses_round_trip (at + length (group_text s cap) + 1) s (assigned s t cap) caps
 
@@ -112,10 +112,10 @@ clause_some s cap = some_before (list_text (group_of s cap)) 61 (map flag_byte (
     some_before [] b bs = refl
     some_before (f ∷ fs) b bs = refl
 
-kept_all : (at : ℕ) (s : CapState) (caps : List Cap) → filter has_bytes (placed at (map (group_text s) caps)) ≡ placed at (map (group_text s) caps)
+kept_all : (at : ℕ) (s : CapState) (caps : List Cap) → filter has_bytes (pieces_at at (map (group_text s) caps)) ≡ pieces_at at (map (group_text s) caps)
 kept_all at s [] = refl
 kept_all at s (cap ∷ caps) =
-    let rest = placed (at + length (group_text s cap) + 1) (map (group_text s) caps) in
+    let rest = pieces_at (at + length (group_text s cap) + 1) (map (group_text s) caps) in
     ap (λ v. cond v (record { at = at; bytes = group_text s cap } ∷ filter has_bytes rest) (filter has_bytes rest)) (clause_some s cap)
     ∙ ap (λ ps. record { at = at; bytes = group_text s cap } ∷ ps) (kept_all (at + length (group_text s cap) + 1) s caps)
 
@@ -127,7 +127,7 @@ joined_round_trip : (s : CapState) (cap : Cap) (caps : List Cap) → parse_caps 
 unfolding parse_caps caps_fault caps_meant clauses_of
 joined_round_trip s cap caps =
     ap (λ cs. unless_fault (first_fault_or error.Empty clause_fault cs) (fold with_clause no_flags cs))
-    (ap (λ ps. filter has_bytes (placed 0 ps)) (split_joined is_blank 32 (group_text s cap) (map (group_text s) caps) refl (no_blanks s (cap ∷ caps))) ∙ kept_all 0 s (cap ∷ caps))
+    (ap (λ ps. filter has_bytes (pieces_at 0 ps)) (split_joined is_blank 32 (group_text s cap) (map (group_text s) caps) refl (no_blanks s (cap ∷ caps))) ∙ kept_all 0 s (cap ∷ caps))
     ∙ clauses_round_trip 0 s no_flags (cap ∷ caps)
 
 none_round_trip : parse_caps (codes "=") ≡ Ok no_flags

@@ -3,7 +3,7 @@ use Rattle.std.specs.Prelude.{ℕ, ◌+◌, ◌==◌, ◌||◌, ◌&&◌, nat_lt
 use Rattle.std.specs.List.{before_first, cons_option, filter, filter_map, prefix_len, slice_split}
 use Rattle.std.specs.Option.{option_map, option_or}
 use Rattle.std.specs.Str.{str_eq_ignore_ascii_case}
-use Rattle.fs_path.specs.Split.{Piece, pieces, placed}
+use Rattle.fs_path.specs.Split.{Piece, pieces, pieces_at}
 use Rattle.cap_bits.specs.Cap.{cap_named}
 use Rattle.cap_bits.specs.CapSet.{CapSet, no_caps, all_of_caps, with_cap, union_of, minus_of}
 use Rattle.cap_bits.specs.declared.state.CapState.{CapState}
@@ -49,11 +49,11 @@ has_bytes piece = are_some piece.bytes
 
 -- the clauses of a text that begins at a place: the pieces between blanks that are not empty
 unfoldable pub clauses_of : ℕ → List ℕ → List Piece
-clauses_of at text = filter has_bytes (placed at (slice_split is_blank text))
+clauses_of at text = filter has_bytes (pieces_at at (slice_split is_blank text))
 
 -- the pieces between commas of a list that begins at a place
 abbrev pub pieces_of : ℕ → List ℕ → List Piece
-pieces_of at list = placed at (pieces 44 list)
+pieces_of at list = pieces_at at (pieces 44 list)
 
 -- ---- faults
 

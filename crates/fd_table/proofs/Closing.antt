@@ -15,21 +15,22 @@ use Rattle.kern_model.specs.declared.numbers.Did.{Did}
 use Rattle.kern_model.specs.declared.numbers.Oid.{Oid}
 use Rattle.kern_model.specs.declared.numbers.Pid.{Pid}
 use Rattle.kern_model.specs.declared.objects.Object.{Object}
-use Rattle.kern_model.specs.Descriptors.{Descriptor, closing, descriptors, truncation, is_drained, is_let_go, let_go}
+use Rattle.kern_model.specs.Descriptors.{Descriptor, changes_of_close, descriptors, truncation, is_drained, is_let_go, let_go}
 use Rattle.kern_model.specs.Keys.{did_cmp, oid_cmp, pid_cmp, same_did, same_oid, same_pid}
 use Rattle.kern_model.specs.Kinds.{is_fifo}
 use Rattle.kern_model.specs.Maps.{any_entry}
 use Rattle.kern_model.specs.ProcessRows.{ending_of, changes_after_end}
-use Rattle.kern_model.specs.State.{State, Process, Description, Change, DropDescription, DropProcess, SetProcess, changed, changed_by, object_at, stub_object}
+use Rattle.kern_model.specs.State.{State, Process, Description, DropDescription, DropProcess, SetProcess, apply_change, apply_changes, object_at, stub_object}
 use Rattle.kern_model.specs.Valid.{IsHeld, IsThere}
 use Rattle.kern_model.proofs.KeyLaws.{did_cmp_total, did_cmp_exact, oid_cmp_total, oid_cmp_exact, pid_cmp_total, pid_cmp_exact}
 use Rattle.kern_model.proofs.MapLemmas.{get_or-absent, get_or-found, get_or-same, never_some, same_key}
 use Rattle.kern_model.proofs.Selections.{none_pass, none_passes}
 use Rattle.kern_model.proofs.SortedEntries.{same_itself}
-use Rattle.fd_table.specs.Files.{OpenFiles, drained, emptied_if, is_held, is_open, is_unused, left_with}
+use Rattle.fd_table.specs.Files.{OpenFiles, objects_after_close, emptied_if, is_held, is_open, is_unused, left_with}
 use Rattle.fd_table.specs.Fds.{AllFds, Fds, fds_of}
 use Rattle.fd_table.proofs.Dropping.{get-gone, get-kept, held_by}
 use Rattle.fd_table.proofs.Leaving.{get-drained}
+use Rattle.kern_model.proofs.StateLemmas.{apply_changes-append}
 
 -- a table that has the descriptors of the processes of a state, and its descriptions, each of which some process holds
 pub record Shows (s : State) (t : OpenFiles) : Type 0 where
@@ -108,11 +109,6 @@ module _ (processes : AllFds) (q : Did) where
   none_hold h = none_pass pid_cmp_total pid_cmp_exact in_fds processes (λ who fds there.
       none_pass nat_cmp_total nat_cmp-IsAntisymmetric on_it fds (λ fd did at. h who fd did (ap (λ (m : Fds). map.get m fd) (get_or-found processes who map.empty fds there) ∙ at)))
 
--- ---- changes one after another
-pub changed_by-append : (s : State) (cs ds : List Change) → changed_by s (cs ++ ds) ≡ changed_by (changed_by s cs) ds
-changed_by-append s [] ds = refl
-changed_by-append s (c ∷ cs) ds = changed_by-append (changed s c) cs ds
-
 module _ (s : State) (goes : Descriptor → Bool) where
   abbrev without_bytes : Oid → Object
   without_bytes id = record (object_at s id) { bytes = [] }
@@ -130,17 +126,17 @@ module _ (s : State) (goes : Descriptor → Bool) where
   emptied_by [] objects = objects
   emptied_by (e ∷ es) objects = emptied_by es (cond (empties e) (map.insert objects e.1.object (without_bytes e.1.object)) objects)
 
-  one_let_go : (r : State) (e : Did × Description) (a b : Bool) → changed_by r (cond a (DropDescription e.0 ∷ cond b (truncation s e.1.object ∷ []) []) [])
+  one_let_go : (r : State) (e : Did × Description) (a b : Bool) → apply_changes r (cond a (DropDescription e.0 ∷ cond b (truncation s e.1.object ∷ []) []) [])
       ≡ record r { descriptions = cond a (map.remove r.descriptions e.0) r.descriptions; objects = cond (a && b) (map.insert r.objects e.1.object (without_bytes e.1.object)) r.objects }
   one_let_go r e true true = refl
   one_let_go r e true false = refl
   one_let_go r e false b = refl
 
-  all_let_go : (es : List (Did × Description)) (r : State) → changed_by r (flat_map (let_go s goes) es) ≡ record r { descriptions = without es r.descriptions; objects = emptied_by es r.objects }
+  all_let_go : (es : List (Did × Description)) (r : State) → apply_changes r (flat_map (let_go s goes) es) ≡ record r { descriptions = without es r.descriptions; objects = emptied_by es r.objects }
   all_let_go [] r = refl
   all_let_go (e ∷ es) r =
-      changed_by-append r (let_go s goes e) (flat_map (let_go s goes) es)
-      ∙ ap (λ (x : State). changed_by x (flat_map (let_go s goes) es)) (one_let_go r e (is_let_go s goes e.0) (is_drained s goes e.1.object))
+      apply_changes-append r (let_go s goes e) (flat_map (let_go s goes) es)
+      ∙ ap (λ (x : State). apply_changes x (flat_map (let_go s goes) es)) (one_let_go r e (is_let_go s goes e.0) (is_drained s goes e.1.object))
       ∙ all_let_go es (record r { descriptions = cond (is_let_go s goes e.0) (map.remove r.descriptions e.0) r.descriptions; objects = cond (empties e) (map.insert r.objects e.1.object (without_bytes e.1.object)) r.objects })
 
   -- what is left at a key
@@ -356,7 +352,7 @@ module _ (s : State) (t : OpenFiles) (shows : Shows s t) (goes : Descriptor → 
                   | false ↦ λ _. refl
                 ] refl)
 
-    get-emptied : map.get (emptied_by s goes (map.entries s.descriptions) s.objects) q ≡ map.get (drained s.descriptions left s.objects) q
+    get-emptied : map.get (emptied_by s goes (map.entries s.descriptions) s.objects) q ≡ map.get (objects_after_close s.descriptions left s.objects) q
     unfolding any_entry
     get-emptied =
         get-emptied_by s goes (map.entries s.descriptions) s.objects q
@@ -376,17 +372,17 @@ module _ (s : State) (t : OpenFiles) (shows : Shows s t) (goes : Descriptor → 
             ∙ ap (λ (w : Option Object). cond (is_fifo x.kind && b) (Some (record x { bytes = [] })) w) e
             ∙ chosen (is_fifo x.kind && b) x ∙ ap (option_map (λ (o : Object). emptied_if (is_fifo o.kind && b) o)) (sym e)
 
-  emptied_is : emptied_by s goes (map.entries s.descriptions) s.objects ≡ drained s.descriptions left s.objects
+  emptied_is : emptied_by s goes (map.entries s.descriptions) s.objects ≡ objects_after_close s.descriptions left s.objects
   emptied_is = same_map oid_cmp_total oid_cmp_exact _ _ get-emptied
 
   -- what is left where these descriptors close
-  closing_is : (procs : FinMap pid_cmp Process) → changed_by (record s { procs = procs }) (closing s goes)
-      ≡ record s { procs = procs; descriptions = (left_with t processes).descriptions; objects = drained s.descriptions (left_with t processes).descriptions s.objects }
-  unfolding closing
+  closing_is : (procs : FinMap pid_cmp Process) → apply_changes (record s { procs = procs }) (changes_of_close s goes)
+      ≡ record s { procs = procs; descriptions = (left_with t processes).descriptions; objects = objects_after_close s.descriptions (left_with t processes).descriptions s.objects }
+  unfolding changes_of_close
   closing_is procs =
       all_let_go s goes (map.entries s.descriptions) (record s { procs = procs })
       ∙ (λ i. record s { procs = procs; descriptions = without_is i; objects = emptied_is i })
-      ∙ ap (λ (ds : FinMap did_cmp Description). record s { procs = procs; descriptions = held_by processes ds; objects = drained s.descriptions (held_by processes ds) s.objects }) shows.descriptions
+      ∙ ap (λ (ds : FinMap did_cmp Description). record s { procs = procs; descriptions = held_by processes ds; objects = objects_after_close s.descriptions (held_by processes ds) s.objects }) shows.descriptions
 
 -- ---- the processes of a table, of which one is set or goes
 module _ (processes : AllFds) (who q : Pid) where
@@ -447,8 +443,8 @@ module _ (s : State) (t : OpenFiles) (shows : Shows s t) (who : Pid) where
     -- `close` makes the changes of its row
     pub close_changes : (p : Process) → (
         let t' : OpenFiles = left_with t (map.insert t.processes who (map.remove (fds_of t.processes who) fd)) in
-        changed_by s (SetProcess who (record p { fds = map.remove p.fds fd }) ∷ closing s (λ (d : Descriptor). same_pid d.who who && d.fd == fd))
-        ≡ record s { procs = map.insert s.procs who (record p { fds = map.remove p.fds fd }); descriptions = t'.descriptions; objects = drained s.descriptions t'.descriptions s.objects })
+        apply_changes s (SetProcess who (record p { fds = map.remove p.fds fd }) ∷ changes_of_close s (λ (d : Descriptor). same_pid d.who who && d.fd == fd))
+        ≡ record s { procs = map.insert s.procs who (record p { fds = map.remove p.fds fd }); descriptions = t'.descriptions; objects = objects_after_close s.descriptions t'.descriptions s.objects })
     close_changes p = closing_is s t shows closes (map.insert t.processes who one_less) leaves_others (map.insert s.procs who (record p { fds = map.remove p.fds fd }))
 
   -- all descriptors of a process close
@@ -469,16 +465,16 @@ module _ (s : State) (t : OpenFiles) (shows : Shows s t) (who : Pid) where
   -- `drop_process` makes the changes of a process that goes
   pub drop_changes : (
       let t' : OpenFiles = left_with t (map.remove t.processes who) in
-      changed_by s (DropProcess who ∷ closing s (λ (d : Descriptor). same_pid d.who who))
-      ≡ record s { procs = map.remove s.procs who; descriptions = t'.descriptions; objects = drained s.descriptions t'.descriptions s.objects })
+      apply_changes s (DropProcess who ∷ changes_of_close s (λ (d : Descriptor). same_pid d.who who))
+      ≡ record s { procs = map.remove s.procs who; descriptions = t'.descriptions; objects = objects_after_close s.descriptions t'.descriptions s.objects })
   drop_changes = closing_is s t shows is_of (map.remove t.processes who) leaves_rest (map.remove s.procs who)
 
   -- and with the changes of the other processes, those of one that ends
   pub ending_changes : (p : Process) (how : Ending) → (
       let t' : OpenFiles = left_with t (map.remove t.processes who) in
-      changed_by s (ending_of s who p how)
-      ≡ changed_by (record s { procs = map.remove s.procs who; descriptions = t'.descriptions; objects = drained s.descriptions t'.descriptions s.objects }) (flat_map (changes_after_end who p how) (map.entries s.procs)))
+      apply_changes s (ending_of s who p how)
+      ≡ apply_changes (record s { procs = map.remove s.procs who; descriptions = t'.descriptions; objects = objects_after_close s.descriptions t'.descriptions s.objects }) (flat_map (changes_after_end who p how) (map.entries s.procs)))
   unfolding ending_of
   ending_changes p how =
-      changed_by-append (changed s (DropProcess who)) (closing s is_of) (flat_map (changes_after_end who p how) (map.entries s.procs))
-      ∙ ap (λ (r : State). changed_by r (flat_map (changes_after_end who p how) (map.entries s.procs))) drop_changes
+      apply_changes-append (apply_change s (DropProcess who)) (changes_of_close s is_of) (flat_map (changes_after_end who p how) (map.entries s.procs))
+      ∙ ap (λ (r : State). apply_changes r (flat_map (changes_after_end who p how) (map.entries s.procs))) drop_changes

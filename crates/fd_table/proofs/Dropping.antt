@@ -22,7 +22,7 @@ use Rattle.kern_model.proofs.MapLemmas.{get-insert_same, get-select_dropped, get
 use Rattle.kern_model.proofs.Selections.{none_pass, none_passes, insert-insert}
 use Rattle.fd_table.specs.declared.shared.Shared.{Shared}
 use Rattle.fd_table.specs.Descriptions.{SharedTable, description_of, descriptions_of, with_one_less}
-use Rattle.fd_table.specs.Files.{AreHeld, OpenFiles, drained, emptied_if, is_held, is_open, is_unused}
+use Rattle.fd_table.specs.Files.{AreHeld, OpenFiles, objects_after_close, emptied_if, is_held, is_open, is_unused}
 use Rattle.fd_table.specs.Fds.{AllFds, Fds}
 use Rattle.fd_table.proofs.Holding.{held-drop, held-free, open_there}
 use Rattle.fd_table.proofs.Leaving.{get-descriptions, get-drained, left_held, less_same}
@@ -71,13 +71,13 @@ twice false false true f g (Some o) = absurd (true≢false (g refl))
 twice false false false f g (Some o) = ap Some (as_it_is (after false o))
 
 -- what is emptied in two steps
-drained_twice : (a b e : Descriptions) (objects : Objects) → ((q : Oid) → is_open a q ≡ false → is_open b q ≡ false) → ((q : Oid) → is_open b q ≡ false → is_open e q ≡ false) → drained b e (drained a b objects) ≡ drained a e objects
+drained_twice : (a b e : Descriptions) (objects : Objects) → ((q : Oid) → is_open a q ≡ false → is_open b q ≡ false) → ((q : Oid) → is_open b q ≡ false → is_open e q ≡ false) → objects_after_close b e (objects_after_close a b objects) ≡ objects_after_close a e objects
 drained_twice a b e objects f g = same_map oid_cmp_total oid_cmp_exact _ _ (λ q.
-    get-drained b e (drained a b objects) q ∙ ap (option_map (after (is_unused b e q))) (get-drained a b objects q)
+    get-drained b e (objects_after_close a b objects) q ∙ ap (option_map (after (is_unused b e q))) (get-drained a b objects q)
     ∙ twice (is_open a q) (is_open b q) (is_open e q) (f q) (g q) (map.get objects q) ∙ sym (get-drained a e objects q))
 
 -- nothing is emptied where nothing closes
-pub drained_same : (ds : Descriptions) (objects : Objects) → drained ds ds objects ≡ objects
+pub drained_same : (ds : Descriptions) (objects : Objects) → objects_after_close ds ds objects ≡ objects
 drained_same ds objects = same_map oid_cmp_total oid_cmp_exact _ _ (λ q. get-drained ds ds objects q ∙ ap (λ b. option_map (after b) (map.get objects q)) (never (is_open ds q)) ∙ kept (map.get objects q))
   where
     never : (b : Bool) → (b && not b) ≡ false
@@ -99,14 +99,14 @@ remove_set processes who fds = same_map pid_cmp_total pid_cmp_exact _ _ (λ q.
 pub record AreLetGo (t0 : OpenFiles) (who : Pid) (own : Fds) (n : ℕ) (shared : SharedTable) (objects0 objects : FinMap oid_cmp Object) : Type 0 where
   pub held : AreHeld (map.insert t0.processes who (from n own)) shared t0.numbers
   pub left : (q : Did) (d : Description) → map.get (descriptions_of shared) q ≡ Some d → map.get t0.descriptions q ≡ Some d
-  pub emptied : objects ≡ drained t0.descriptions (descriptions_of shared) objects0
+  pub emptied : objects ≡ objects_after_close t0.descriptions (descriptions_of shared) objects0
 
 pub none_let_go : (t0 : OpenFiles) (who : Pid) (own : Fds) (shared : SharedTable) (objects : FinMap oid_cmp Object) → map.get t0.processes who ≡ Some own
     → AreHeld t0.processes shared t0.numbers → descriptions_of shared ≡ t0.descriptions → AreLetGo t0 who own 0 shared objects objects
 none_let_go t0 who own shared objects there are same = record {
   held = subst (λ (m : AllFds). AreHeld m shared t0.numbers) (sym (ap (map.insert t0.processes who) (from-all own) ∙ insert-same pid_cmp_total pid_cmp_exact t0.processes who own there)) are;
   left = λ q d e. ap (λ (ds : Descriptions). map.get ds q) (sym same) ∙ e;
-  emptied = sym (ap (λ (ds : Descriptions). drained t0.descriptions ds objects) same ∙ drained_same t0.descriptions objects);
+  emptied = sym (ap (λ (ds : Descriptions). objects_after_close t0.descriptions ds objects) same ∙ drained_same t0.descriptions objects);
 }
 
 module _ (t0 : OpenFiles) (who : Pid) (own : Fds) (n : ℕ) (shared : SharedTable) (objects0 objects : FinMap oid_cmp Object) (are : AreLetGo t0 who own n shared objects0 objects) where
@@ -123,14 +123,14 @@ module _ (t0 : OpenFiles) (who : Pid) (own : Fds) (n : ℕ) (shared : SharedTabl
 
   -- and is let go
   pub let_go_next : (did : Did) → map.get own n ≡ Some did → (s : Shared) → map.get shared did ≡ Some s → (new : SharedTable) → new ≡ with_one_less shared did s
-      → (objects' : FinMap oid_cmp Object) → objects' ≡ drained (descriptions_of shared) (descriptions_of new) objects → AreLetGo t0 who own (n + 1) new objects0 objects'
+      → (objects' : FinMap oid_cmp Object) → objects' ≡ objects_after_close (descriptions_of shared) (descriptions_of new) objects → AreLetGo t0 who own (n + 1) new objects0 objects'
   let_go_next did at s is new less objects' drains = record {
     held = subst (λ (m : SharedTable). AreHeld (map.insert t0.processes who (from (n + 1) own)) m t0.numbers) (sym less)
         (subst (λ (m : AllFds). AreHeld m (with_one_less shared did s) t0.numbers)
         (insert-insert pid_cmp_total pid_cmp_exact t0.processes who (from n own) (map.remove (from n own) n) ∙ ap (map.insert t0.processes who) (from-next own n))
         (held-free (map.insert t0.processes who (from n own)) shared t0.numbers are.held who (from n own) there n did s is (next_from (Some did) at)));
     left = λ q d e. are.left q d (fewer q d e);
-    emptied = drains ∙ ap (drained (descriptions_of shared) (descriptions_of new)) are.emptied
+    emptied = drains ∙ ap (objects_after_close (descriptions_of shared) (descriptions_of new)) are.emptied
         ∙ drained_twice t0.descriptions (descriptions_of shared) (descriptions_of new) objects0 (still_closed t0.descriptions (descriptions_of shared) are.left)
         (still_closed (descriptions_of shared) (descriptions_of new) fewer);
   }

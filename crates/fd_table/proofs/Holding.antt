@@ -19,7 +19,7 @@ use Rattle.kern_model.specs.declared.numbers.Did.{Did}
 use Rattle.kern_model.specs.declared.numbers.Pid.{Pid}
 use Rattle.kern_model.specs.Keys.{did_cmp, pid_cmp, same_did}
 use Rattle.kern_model.specs.Maps.{count_entries}
-use Rattle.kern_model.specs.State.{drawn}
+use Rattle.kern_model.specs.State.{last_drawn}
 use Rattle.kern_model.specs.Valid.{IsThere}
 use Rattle.kern_model.proofs.KeyLaws.{did_cmp_total, did_cmp_exact, pid_cmp_total, pid_cmp_exact}
 use Rattle.kern_model.proofs.MapLemmas.{each-entries, each-insert, each-remove, get-insert_same, get_or-absent, get_or-found, get_or-same, head_T, never_some, same_key, tail_T}
@@ -204,13 +204,13 @@ module _ (processes : AllFds) (shared : SharedTable) (numbers : FinMap label_cmp
       omega (arith, all, few, rooms)
 
   -- the next number is of no description
-  pub fresh : (did : Did) (label : Label) → did ≡ record { label = label; n = drawn numbers label + 1 } → map.get shared did ≡ None
+  pub fresh : (did : Did) (label : Label) → did ≡ record { label = label; n = last_drawn numbers label + 1 } → map.get shared did ≡ None
   fresh did label next = elim (map.get shared did) as (λ w. map.get shared did ≡ w → w ≡ None) [
     | None ↦ λ _. refl
     | Some s ↦ λ is.
         let low = are.drawn_already did s is in
-        let same : drawn numbers did.label ≡ drawn numbers label = ap (λ (d : Did). drawn numbers d.label) next in
-        let above : did.n ≡ drawn numbers label + 1 = ap (λ (d : Did). d.n) next in
+        let same : last_drawn numbers did.label ≡ last_drawn numbers label = ap (λ (d : Did). last_drawn numbers d.label) next in
+        let above : did.n ≡ last_drawn numbers label + 1 = ap (λ (d : Did). d.n) next in
         absurd (omega (arith, low, same, above))
   ] refl
 
@@ -261,11 +261,11 @@ module _ (processes : AllFds) (shared : SharedTable) (numbers : FinMap label_cmp
         held = each-insert did_cmp_total did_cmp_exact (λ (q : Did) (x : Shared). 1 ≤ x.holders) shared are.held did (record s { holders = s.holders + 1 }) (omega arith);
         below = fds_below (map.insert fds fd did) (fds_more low);
         few = let size = same_size (map.insert fds fd did) in let room = are.few in omega (arith, size, room);
-        drawn_already = each-insert did_cmp_total did_cmp_exact (λ (q : Did) (x : Shared). q.n ≤ drawn numbers q.label) shared are.drawn_already did (record s { holders = s.holders + 1 }) (are.drawn_already did s is);
+        drawn_already = each-insert did_cmp_total did_cmp_exact (λ (q : Did) (x : Shared). q.n ≤ last_drawn numbers q.label) shared are.drawn_already did (record s { holders = s.holders + 1 }) (are.drawn_already did s is);
       }
 
       -- on a new one
-      pub held-new : (label : Label) → did ≡ record { label = label; n = drawn numbers label + 1 } → (s : Shared) → s.holders ≡ 1 → map.get fds fd ≡ None → fd < MAX_DESCRIPTORS → AreHeld (map.insert processes who (map.insert fds fd did)) (map.insert shared did s) (map.insert numbers label did.n)
+      pub held-new : (label : Label) → did ≡ record { label = label; n = last_drawn numbers label + 1 } → (s : Shared) → s.holders ≡ 1 → map.get fds fd ≡ None → fd < MAX_DESCRIPTORS → AreHeld (map.insert processes who (map.insert fds fd did)) (map.insert shared did s) (map.insert numbers label did.n)
       held-new label next s one none low = record {
         counted = λ q. counted_at shared (map.insert shared did s) did (Some s) (get-insert did_cmp_total shared did s) q (same_did did q) refl
             ∙ one_more (same_did did q) (holders processes q) s.holders (holders_kept (map.get shared q)) (holders (map.insert processes who (map.insert fds fd did)) q) (counted_more none q)
@@ -275,15 +275,15 @@ module _ (processes : AllFds) (shared : SharedTable) (numbers : FinMap label_cmp
         held = each-insert did_cmp_total did_cmp_exact (λ (q : Did) (x : Shared). 1 ≤ x.holders) shared are.held did s (omega (arith, one));
         below = fds_below (map.insert fds fd did) (fds_more low);
         few = let size = same_size (map.insert fds fd did) in let room = are.few in omega (arith, size, room);
-        drawn_already = each-insert did_cmp_total did_cmp_exact (λ (q : Did) (x : Shared). q.n ≤ drawn (map.insert numbers label did.n) q.label) shared
+        drawn_already = each-insert did_cmp_total did_cmp_exact (λ (q : Did) (x : Shared). q.n ≤ last_drawn (map.insert numbers label did.n) q.label) shared
             (λ q x e. let low = are.drawn_already q x e in let rise = rises label (ap (λ (d : Did). d.n) next) q.label in omega (arith, low, rise)) did s
-            (let now = now_drawn label in let same : drawn (map.insert numbers label did.n) did.label ≡ drawn (map.insert numbers label did.n) label = ap (λ (d : Did). drawn (map.insert numbers label did.n) d.label) next in omega (arith, now, same));
+            (let now = now_drawn label in let same : last_drawn (map.insert numbers label did.n) did.label ≡ last_drawn (map.insert numbers label did.n) label = ap (λ (d : Did). last_drawn (map.insert numbers label did.n) d.label) next in omega (arith, now, same));
       }
         where
-          rises : (label : Label) → did.n ≡ drawn numbers label + 1 → (l : Label) → drawn numbers l ≤ drawn (map.insert numbers label did.n) l
-          rises label next = each_set_at label_cmp_total label_cmp_exact (λ l n. drawn numbers l ≤ n) 0 numbers label did.n (omega (arith, next)) (λ l. omega arith)
+          rises : (label : Label) → did.n ≡ last_drawn numbers label + 1 → (l : Label) → last_drawn numbers l ≤ last_drawn (map.insert numbers label did.n) l
+          rises label next = each_set_at label_cmp_total label_cmp_exact (λ l n. last_drawn numbers l ≤ n) 0 numbers label did.n (omega (arith, next)) (λ l. omega arith)
 
-          now_drawn : (label : Label) → drawn (map.insert numbers label did.n) label ≡ did.n
+          now_drawn : (label : Label) → last_drawn (map.insert numbers label did.n) label ≡ did.n
           now_drawn label = get_or-found (map.insert numbers label did.n) label 0 did.n (get-insert_same label_cmp_total numbers label did.n)
 
       -- a descriptor that is closed
@@ -305,9 +305,9 @@ module _ (processes : AllFds) (shared : SharedTable) (numbers : FinMap label_cmp
               let many : 1 < s.holders = grind (arith, nat_tests) in
               each-insert did_cmp_total did_cmp_exact (λ (q : Did) (x : Shared). 1 ≤ x.holders) shared are.held did (record s { holders = s.holders - 1 }) (omega (arith, many))
 
-          still_drawn : (b : Bool) → (q : Did) (x : Shared) → map.get (cond b (map.remove shared did) (map.insert shared did (record s { holders = s.holders - 1 }))) q ≡ Some x → q.n ≤ drawn numbers q.label
-          still_drawn true = each-remove did_cmp_total did_cmp_exact (λ (q : Did) (x : Shared). q.n ≤ drawn numbers q.label) shared are.drawn_already did
-          still_drawn false = each-insert did_cmp_total did_cmp_exact (λ (q : Did) (x : Shared). q.n ≤ drawn numbers q.label) shared are.drawn_already did (record s { holders = s.holders - 1 }) (are.drawn_already did s is)
+          still_drawn : (b : Bool) → (q : Did) (x : Shared) → map.get (cond b (map.remove shared did) (map.insert shared did (record s { holders = s.holders - 1 }))) q ≡ Some x → q.n ≤ last_drawn numbers q.label
+          still_drawn true = each-remove did_cmp_total did_cmp_exact (λ (q : Did) (x : Shared). q.n ≤ last_drawn numbers q.label) shared are.drawn_already did
+          still_drawn false = each-insert did_cmp_total did_cmp_exact (λ (q : Did) (x : Shared). q.n ≤ last_drawn numbers q.label) shared are.drawn_already did (record s { holders = s.holders - 1 }) (are.drawn_already did s is)
 
   -- a description whose offset is set
   pub held-moved : (did : Did) (s new : Shared) → map.get shared did ≡ Some s → new.holders ≡ s.holders → AreHeld processes (map.insert shared did new) numbers
@@ -317,7 +317,7 @@ module _ (processes : AllFds) (shared : SharedTable) (numbers : FinMap label_cmp
     held = each-insert did_cmp_total did_cmp_exact (λ (q : Did) (x : Shared). 1 ≤ x.holders) shared are.held did new (let one = are.held did s is in omega (arith, one, same));
     below = are.below;
     few = are.few;
-    drawn_already = each-insert did_cmp_total did_cmp_exact (λ (q : Did) (x : Shared). q.n ≤ drawn numbers q.label) shared are.drawn_already did new (are.drawn_already did s is);
+    drawn_already = each-insert did_cmp_total did_cmp_exact (λ (q : Did) (x : Shared). q.n ≤ last_drawn numbers q.label) shared are.drawn_already did new (are.drawn_already did s is);
   }
     where
       kept_same : (q : Did) (b : Bool) → same_did did q ≡ b → cond b new.holders (holders_kept (map.get shared q)) ≡ holders_kept (map.get shared q)

@@ -22,7 +22,7 @@ use Rattle.kern_model.proofs.MapLemmas.{get-select, get-select_dropped, get-sele
 use Rattle.kern_model.proofs.Selections.{any_entry-select}
 use Rattle.fd_table.specs.declared.shared.Shared.{Shared}
 use Rattle.fd_table.specs.Descriptions.{SharedTable, description_of, descriptions_of, has_user, holders_kept, uses_of, with_one_less}
-use Rattle.fd_table.specs.Files.{AreHeld, drained, emptied_if, is_held, is_open, is_unused}
+use Rattle.fd_table.specs.Files.{AreHeld, objects_after_close, emptied_if, is_held, is_open, is_unused}
 use Rattle.fd_table.specs.Fifo.{fifo_emptied, without_bytes}
 use Rattle.fd_table.specs.Fds.{AllFds, Fds, holders, holders_in}
 use Rattle.fd_table.proofs.Holding.{get-less, less}
@@ -118,8 +118,8 @@ less_same shared did s is q x e =
 
 -- ---- FIFOs that lose their last description
 module _ (old new : FinMap did_cmp Description) (objects : FinMap oid_cmp Object) where
-  pub get-drained : (q : Oid) → map.get (drained old new objects) q ≡ option_map (λ (o : Object). emptied_if (is_fifo o.kind && is_unused old new q) o) (map.get objects q)
-  unfolding drained
+  pub get-drained : (q : Oid) → map.get (objects_after_close old new objects) q ≡ option_map (λ (o : Object). emptied_if (is_fifo o.kind && is_unused old new q) o) (map.get objects q)
+  unfolding objects_after_close
   get-drained q = get-select oid_cmp_exact (λ (id : Oid) (o : Object). Some (emptied_if (is_fifo o.kind && is_unused old new id) o)) oid_cmp_total objects q
       ∙ elim (map.get objects q) as (λ w. option_and_then (λ (o : Object). Some (emptied_if (is_fifo o.kind && is_unused old new q) o)) w ≡ option_map (λ (o : Object). emptied_if (is_fifo o.kind && is_unused old new q) o) w) [ None ↦ refl | Some o ↦ refl ]
 
@@ -156,7 +156,7 @@ get-emptied objects id w is q =
         ∙ sym (ap (option_map (λ (o : Object). emptied_if (is_fifo o.kind && same_oid id q) o)) at)
 
 -- where one object alone may have lost its last description
-pub drained_one : (old new : FinMap did_cmp Description) (objects : FinMap oid_cmp Object) (id : Oid) (b : Bool) → ((q : Oid) → is_unused old new q ≡ (same_oid id q && b)) → drained old new objects ≡ without_bytes objects (cond b (Some id) None)
+pub drained_one : (old new : FinMap did_cmp Description) (objects : FinMap oid_cmp Object) (id : Oid) (b : Bool) → ((q : Oid) → is_unused old new q ≡ (same_oid id q && b)) → objects_after_close old new objects ≡ without_bytes objects (cond b (Some id) None)
 drained_one old new objects id true h = same_map oid_cmp_total oid_cmp_exact _ _ (λ q.
     get-drained old new objects q ∙ ap (λ b. option_map (λ (o : Object). emptied_if (is_fifo o.kind && b) o) (map.get objects q)) (h q ∙ and-true (same_oid id q))
     ∙ sym (get-emptied objects id (map.get objects id) refl q))
@@ -190,8 +190,8 @@ module _ (shared : SharedTable) (did : Did) (s : Shared) (is : map.get shared di
 
   -- what the objects are where that was the last one of its object
   pub drained_less : (new : SharedTable) → new ≡ with_one_less shared did s → (w : Option Oid) → w ≡ cond (uses_of new s.object == 0) (Some s.object) None → (objects : FinMap oid_cmp Object)
-      → without_bytes objects w ≡ drained (descriptions_of shared) (descriptions_of new) objects
+      → without_bytes objects w ≡ objects_after_close (descriptions_of shared) (descriptions_of new) objects
   drained_less new less w unused objects =
       ap (without_bytes objects) (unused ∙ ap (λ (m : SharedTable). cond (uses_of m s.object == 0) (Some s.object) None) less)
       ∙ sym (drained_one (descriptions_of shared) (descriptions_of (with_one_less shared did s)) objects s.object (uses_of (with_one_less shared did s) s.object == 0) unused_one)
-      ∙ ap (λ (m : SharedTable). drained (descriptions_of shared) (descriptions_of m) objects) (sym less)
+      ∙ ap (λ (m : SharedTable). objects_after_close (descriptions_of shared) (descriptions_of m) objects) (sym less)

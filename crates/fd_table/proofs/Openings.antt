@@ -10,7 +10,7 @@ use Rattle.kern_model.specs.declared.numbers.Oid.{Oid}
 use Rattle.kern_model.specs.declared.numbers.Pid.{Pid}
 use Rattle.kern_model.specs.Descriptors.{lowest_free}
 use Rattle.kern_model.specs.Maps.{select, where_key}
-use Rattle.kern_model.specs.State.{drawn}
+use Rattle.kern_model.specs.State.{last_drawn}
 use Rattle.kern_model.specs.Valid.{IsThere}
 use Rattle.kern_model.proofs.KeyLaws.{did_cmp_total, did_cmp_exact}
 use Rattle.kern_model.proofs.MapLemmas.{get-insert_same, remove-insert}
@@ -33,7 +33,7 @@ module _ (processes : AllFds) (shared : SharedTable) (numbers : FinMap label_cmp
 
   -- ---- a description is made under the next number of a label
   module _ (label : Label) (did : Did) (is : did ≡ next_in t label) (object : Oid) (how : How) (mid : SharedTable) (made : mid ≡ map.insert shared did (made_for object how)) where
-    next : did ≡ record { label = label; n = drawn numbers label + 1 }
+    next : did ≡ record { label = label; n = last_drawn numbers label + 1 }
     next = is ∙ ap (λ (t : OpenFiles). next_in t label) (sym view)
 
     pub made_there : map.get mid did ≡ Some (made_for object how)
@@ -61,7 +61,7 @@ module _ (processes : AllFds) (shared : SharedTable) (numbers : FinMap label_cmp
 
       pub table_opened : fd ≡ lowest_free (fds_of processes who) → ◌≡◌ {A = OpenFiles} (record { processes = processes'; descriptions = descriptions_of mid; numbers = numbers' }) (with_opened t who label (opened_for object how))
       table_opened lowest =
-          let first : Did = record { label = label; n = drawn numbers label + 1 } in
+          let first : Did = record { label = label; n = last_drawn numbers label + 1 } in
           let descriptions : descriptions_of mid ≡ map.insert (descriptions_of shared) did (opened_for object how) = ap descriptions_of made ∙ descriptions-insert shared did (made_for object how) in
           (λ i. record { processes = set i; descriptions = descriptions i; numbers = drawn_now i })
           ∙ ap (λ (d : Did). record { processes = map.insert processes who (map.insert (fds_of processes who) fd d); descriptions = map.insert (descriptions_of shared) d (opened_for object how); numbers = map.insert numbers label d.n }) next

@@ -15,7 +15,7 @@ use Rattle.kern_model.specs.Descriptors.{Opened, lowest_free}
 use Rattle.kern_model.specs.Keys.{did_cmp, oid_cmp, same_did, same_oid}
 use Rattle.kern_model.specs.Kinds.{is_fifo}
 use Rattle.kern_model.specs.Maps.{any_entry, select, where_key}
-use Rattle.kern_model.specs.State.{Description, drawn}
+use Rattle.kern_model.specs.State.{Description, last_drawn}
 use Rattle.fd_table.specs.declared.process_fds.TheConstants.{MAX_PROCESSES}
 use Rattle.fd_table.specs.declared.shared.How.{How}
 use Rattle.fd_table.specs.declared.shared.Shared.{Shared}
@@ -96,14 +96,14 @@ with_dup t who did = with_fds_of t who (with_lowest (fds_at t who) did)
 
 -- the number of the next description at a label
 abbrev pub next_in : OpenFiles → Label → Did
-next_in t l = record { label = l; n = drawn t.numbers l + 1 }
+next_in t l = record { label = l; n = last_drawn t.numbers l + 1 }
 
 -- a new description under the next number of a label, at the lowest free descriptor of a process
 abbrev pub with_opened : OpenFiles → Pid → Label → Description → OpenFiles
 with_opened t who l d = record {
   processes = map.insert t.processes who (with_lowest (fds_at t who) (next_in t l));
   descriptions = map.insert t.descriptions (next_in t l) d;
-  numbers = map.insert t.numbers l (drawn t.numbers l + 1);
+  numbers = map.insert t.numbers l (last_drawn t.numbers l + 1);
 }
 
 -- a description with another offset
@@ -115,7 +115,7 @@ with_offset t did d offset = record t { descriptions = map.insert t.descriptions
 -- why n descriptions are not opened
 abbrev pub open_refusal : OpenFiles → Pid → Label → ℕ → Option FdError
 open_refusal t who l n =
-    cond (nat_le (fd_count (fds_at t who) + n) MAX_DESCRIPTORS) (cond (nat_le (drawn t.numbers l + n) MAX_DESCRIPTIONS) None (Some error.Full)) (Some error.TooMany)
+    cond (nat_le (fd_count (fds_at t who) + n) MAX_DESCRIPTORS) (cond (nat_le (last_drawn t.numbers l + n) MAX_DESCRIPTIONS) None (Some error.Full)) (Some error.TooMany)
 
 abbrev pub is_no_memory : FdError → Bool
 is_no_memory (error.NoMemory e) = true
@@ -147,8 +147,8 @@ abbrev pub emptied_if : Bool → Object → Object
 emptied_if b o = cond b (record o { bytes = [] }) o
 
 -- the objects, where each FIFO whose last description went is empty
-unfoldable pub drained : FinMap did_cmp Description → FinMap did_cmp Description → FinMap oid_cmp Object → FinMap oid_cmp Object
-drained old new objects = select (λ (id : Oid) (o : Object). Some (emptied_if (is_fifo o.kind && is_unused old new id) o)) objects
+unfoldable pub objects_after_close : FinMap did_cmp Description → FinMap did_cmp Description → FinMap oid_cmp Object → FinMap oid_cmp Object
+objects_after_close old new objects = select (λ (id : Oid) (o : Object). Some (emptied_if (is_fifo o.kind && is_unused old new id) o)) objects
 
 -- ---- what is kept
 
@@ -158,4 +158,4 @@ pub record AreHeld (processes : AllFds) (shared : SharedTable) (numbers : FinMap
   pub held : (did : Did) (s : Shared) → map.get shared did ≡ Some s → 1 ≤ s.holders
   pub below : (who : Pid) (fds : Fds) → map.get processes who ≡ Some fds → (fd : ℕ) (did : Did) → map.get fds fd ≡ Some did → fd < MAX_DESCRIPTORS
   pub few : map.len processes ≤ MAX_PROCESSES
-  pub drawn_already : (did : Did) (s : Shared) → map.get shared did ≡ Some s → did.n ≤ drawn numbers did.label
+  pub drawn_already : (did : Did) (s : Shared) → map.get shared did ≡ Some s → did.n ≤ last_drawn numbers did.label

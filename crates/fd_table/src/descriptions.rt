@@ -116,11 +116,11 @@ impl Descriptions {
         let Shared { object, how, .. } = *shared;
         self.shared.remove_at(did);
         self.uses.remove_one(&object, how);
-        self.unused(&object)
+        self.if_unused(&object)
     }
 
     // An object, where it has no description.
-    fn unused(&self, id: &Oid) -> Option<Oid>
+    fn if_unused(&self, id: &Oid) -> Option<Oid>
         ensures { result ≡ cond (uses_of self.now id.now == 0) (Some id.now) None }
     {
         if self.uses.count(id).all == 0 {

@@ -5,7 +5,7 @@ ghost use Rattle.kern_model.specs.Valid.{IsThere};
 ghost use Rattle.fd_table.specs.declared.shared.Shared.{Shared as Value};
 ghost use Rattle.fd_table.specs.Descriptions.{descriptions_of, with_one_less};
 ghost use Rattle.fd_table.specs.Fifo.{without_bytes};
-ghost use Rattle.fd_table.specs.Files.{drained};
+ghost use Rattle.fd_table.specs.Files.{objects_after_close};
 
 use crate::descriptions::Descriptions;
 use fs_nodes::Buffers;
@@ -31,7 +31,7 @@ fn drop_fifo<B: Buffers>(buffers: &mut B, id: &Option<Oid>)
 pub fn let_go<B: Buffers>(descriptions: &mut Descriptions, did: &Did, buffers: &mut B)
     requires { IsThere descriptions.old did.now }
     ensures left { (s : Value) → map.get descriptions.old did.now ≡ Some s → descriptions.new ≡ with_one_less descriptions.old did.now s }
-    ensures drained { B.objects buffers.new ≡ drained (descriptions_of descriptions.old) (descriptions_of descriptions.new) (B.objects buffers.old) }
+    ensures drained { B.objects buffers.new ≡ objects_after_close (descriptions_of descriptions.old) (descriptions_of descriptions.new) (B.objects buffers.old) }
     ensures rest { B.rest_same buffers.old buffers.new }
 {
     let unused = descriptions.release(did);

@@ -1,7 +1,7 @@
 // Bytes into pipes and FIFOs, and out of them.
 ghost use Rattle.std.specs.Prelude.{◌≡◌, ◌++◌, true, false, Err, IfErr, IfOk, Ok, OnErr, OnOk, drop, length, take};
 ghost use Rattle.kern_model.specs.Maps.{IfPresent};
-ghost use Rattle.fs_nodes.specs.Nodes.{ForBytes, IsStream, fitting};
+ghost use Rattle.fs_nodes.specs.Nodes.{ForBytes, IsStream, copy_len};
 ghost use Rattle.fd_table.specs.Files.{has_reader};
 ghost use Rattle.fd_table.specs.Pipes.{IfFull, IfRoom, is_awaited, is_no_memory};
 
@@ -86,7 +86,7 @@ impl FdTable {
     ) -> Result<usize, PipeError>
         requires { IsStream (B.objects buffers.old) id.now }
         ensures again { IfPresent (B.objects buffers.old) id.now (λ o. is_awaited self.now id.now o.bytes ≡ true → result ≡ Err PipeError.Again) }
-        ensures count { IfPresent (B.objects buffers.old) id.now (λ o. is_awaited self.now id.now o.bytes ≡ false → result ≡ Ok (fitting o.bytes buf.old)) }
+        ensures count { IfPresent (B.objects buffers.old) id.now (λ o. is_awaited self.now id.now o.bytes ≡ false → result ≡ Ok (copy_len o.bytes buf.old)) }
         ensures taken { IfPresent (B.objects buffers.old) id.now (λ o. IfOk result (λ n. buf.new ≡ take n o.bytes ++ drop n buf.old)) }
         ensures left { ForBytes (B.objects buffers.old) id.now (λ old with_bytes. IfOk result (λ n. B.objects buffers.new ≡ with_bytes (drop n old))) }
         ensures err { OnErr result (B.objects buffers.new ≡ B.objects buffers.old) }

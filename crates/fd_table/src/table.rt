@@ -3,12 +3,12 @@ ghost use Rattle.std.specs.Prelude.{◌≡◌, ◌+◌, ◌<◌, ◌≤◌, ℕ,
 ghost use Rattle.std.specs.FinMap as map;
 ghost use Rattle.kern_model.specs.Descriptors.{lowest_free};
 ghost use Rattle.kern_model.specs.Keys.{same_pid};
-ghost use Rattle.kern_model.specs.State.{Description, drawn};
+ghost use Rattle.kern_model.specs.State.{Description, last_drawn};
 ghost use Rattle.kern_model.specs.Valid.{IsThere};
 ghost use Rattle.kern_model.specs.declared.limits.TheConstants.{MAX_DESCRIPTIONS, MAX_DESCRIPTORS};
 ghost use Rattle.kern_model.specs.declared.numbers.Did.{Did as Number};
 ghost use Rattle.kern_model.specs.declared.numbers.Pid.{Pid as Process};
-ghost use Rattle.fd_table.specs.Files.{ForDescription, description_at, did_at, drained, fds_at, has_reader, has_writer, how_of, is_no_memory, is_past, left_with, next_in, no_files, open_refusal, opened_at, opened_for, with_dup, with_fds_of, with_offset, with_opened};
+ghost use Rattle.fd_table.specs.Files.{ForDescription, description_at, did_at, objects_after_close, fds_at, has_reader, has_writer, how_of, is_no_memory, is_past, left_with, next_in, no_files, open_refusal, opened_at, opened_for, with_dup, with_fds_of, with_offset, with_opened};
 ghost use Rattle.fd_table.specs.Descriptions.{description_of};
 ghost use Rattle.fd_table.specs.Fds.{HasFree, fd_count, fds_of};
 
@@ -147,7 +147,7 @@ impl FdTable {
     /// Closes all descriptors of a process and removes the process, if it is there. It takes no memory.
     pub fn drop_process<B: Buffers>(&mut self, who: &Pid, buffers: &mut B)
         ensures left { self.new ≡ left_with self.old (map.remove self.old.processes who.now) }
-        ensures drained { B.objects buffers.new ≡ drained self.old.descriptions self.new.descriptions (B.objects buffers.old) }
+        ensures drained { B.objects buffers.new ≡ objects_after_close self.old.descriptions self.new.descriptions (B.objects buffers.old) }
         ensures rest { B.rest_same buffers.old buffers.new }
     {
         let Some(slots) = self.processes.remove(who) else {
@@ -209,7 +209,7 @@ impl FdTable {
 
     // The number of the next description at a label.
     fn next(&self, label: &Label) -> Did
-        requires { drawn self.now.numbers label.now < MAX_DESCRIPTIONS }
+        requires { last_drawn self.now.numbers label.now < MAX_DESCRIPTIONS }
         ensures { result ≡ next_in self.now label.now }
     {
         let n = self.numbers.last(label) + 1;
@@ -248,7 +248,7 @@ impl FdTable {
         ensures not_open { did_at self.old who.now fd ≡ None → result ≡ Err FdError.NotOpen }
         ensures open { IsSome (did_at self.old who.now fd) → IsOk result }
         ensures left { OnOk result (self.new ≡ left_with self.old (map.insert self.old.processes who.now (map.remove (fds_at self.old who.now) fd))) }
-        ensures drained { OnOk result (B.objects buffers.new ≡ drained self.old.descriptions self.new.descriptions (B.objects buffers.old)) }
+        ensures drained { OnOk result (B.objects buffers.new ≡ objects_after_close self.old.descriptions self.new.descriptions (B.objects buffers.old)) }
         ensures err { OnErr result (self.new ≡ self.old) }
         ensures untouched { OnErr result (B.objects buffers.new ≡ B.objects buffers.old) }
         ensures rest { B.rest_same buffers.old buffers.new }

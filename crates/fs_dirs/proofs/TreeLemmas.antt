@@ -19,7 +19,7 @@ use Rattle.kern_model.specs.Keys.{Spot, oid_cmp, spot_cmp, same_oid}
 use Rattle.kern_model.specs.Kinds.{object_with}
 use Rattle.kern_model.specs.Maps.{any_entry}
 use Rattle.kern_model.specs.Rules.{is_above_holders}
-use Rattle.kern_model.specs.State.{State, drawn, object_at, stub_object}
+use Rattle.kern_model.specs.State.{State, last_drawn, object_at, stub_object}
 use Rattle.kern_model.specs.Valid.{IsDir}
 use Rattle.kern_model.proofs.KeyLaws.{oid_cmp_total, oid_cmp_exact, spot_cmp_total, spot_cmp_exact}
 use Rattle.kern_model.proofs.MapLemmas.{each-entries, each-insert, each-remove, get-insert_kept, get-insert_same, get_or-absent, get_or-found, get_or-same, never_some, same_key, some_same}
@@ -31,7 +31,7 @@ use Rattle.fs_dirs.proofs.CountLemmas.{count_entries-empty, count_entries-insert
 use Rattle.fs_dirs.proofs.MoveLemmas.{no_more}
 
 -- no number is drawn at first
-pub none_drawn : (l : Label) → drawn map.empty l ≡ 0
+pub none_drawn : (l : Label) → last_drawn map.empty l ≡ 0
 none_drawn l = get_or-absent map.empty l 0 (get-empty label_cmp l)
 
 -- the first object is the root
@@ -84,9 +84,9 @@ pub tree_set : {table after : NodeTable} {t : FinMap spot_cmp Oid} (id : Oid) (b
 tree_set {table} {after} {t} id becomes o tree is same made = subst (λ (x : NodeTable). IsTree x t) (sym made) (tree_with_object table t tree id o (becomes o) is same)
 
 -- an object is made
-module _ (table : NodeTable) (label : Label) (o : Object) (drawn_already : (id : Oid) (x : Object) → map.get table.objects id ≡ Some x → id.n ≤ drawn table.numbers id.label) where
+module _ (table : NodeTable) (label : Label) (o : Object) (drawn_already : (id : Oid) (x : Object) → map.get table.objects id ≡ Some x → id.n ≤ last_drawn table.numbers id.label) where
   abbrev last : ℕ
-  last = drawn table.numbers label
+  last = last_drawn table.numbers label
 
   new_absent : map.get table.objects (next_in table label) ≡ None
   new_absent = elim (map.get table.objects (next_in table label)) as (λ w. map.get table.objects (next_in table label) ≡ w → w ≡ None) [
@@ -94,27 +94,27 @@ module _ (table : NodeTable) (label : Label) (o : Object) (drawn_already : (id :
     | Some x ↦ λ e. let low : last + 1 ≤ last = drawn_already (next_in table label) x e in absurd (omega (arith, low))
   ] refl
 
-  drawn_after : (l : Label) → drawn (map.insert table.numbers label (last + 1)) l ≡ cond (eq_by_cmp label_cmp l label) (last + 1) (drawn table.numbers l)
-  drawn_after l = elim (eq_by_cmp label_cmp l label) as (λ b. eq_by_cmp label_cmp l label ≡ b → drawn (map.insert table.numbers label (last + 1)) l ≡ cond b (last + 1) (drawn table.numbers l)) [
+  drawn_after : (l : Label) → last_drawn (map.insert table.numbers label (last + 1)) l ≡ cond (eq_by_cmp label_cmp l label) (last + 1) (last_drawn table.numbers l)
+  drawn_after l = elim (eq_by_cmp label_cmp l label) as (λ b. eq_by_cmp label_cmp l label ≡ b → last_drawn (map.insert table.numbers label (last + 1)) l ≡ cond b (last + 1) (last_drawn table.numbers l)) [
     | true ↦ λ t. get_or-found (map.insert table.numbers label (last + 1)) l 0 (last + 1) (get-insert label_cmp_total table.numbers label (last + 1) l ∙ ap (λ b. cond b (Some (last + 1)) (map.get table.numbers l)) t)
     | false ↦ λ f. get_or-same (map.insert table.numbers label (last + 1)) table.numbers l 0 (get-insert label_cmp_total table.numbers label (last + 1) l ∙ ap (λ b. cond b (Some (last + 1)) (map.get table.numbers l)) f)
   ] refl
 
-  more_drawn : (l : Label) → drawn table.numbers l ≤ drawn (map.insert table.numbers label (last + 1)) l
-  more_drawn l = subst (λ n. drawn table.numbers l ≤ n) (sym (drawn_after l)) (elim (eq_by_cmp label_cmp l label) as (λ b. eq_by_cmp label_cmp l label ≡ b → drawn table.numbers l ≤ cond b (last + 1) (drawn table.numbers l)) [
-    | true ↦ λ t. let same : drawn table.numbers l ≡ last = ap (drawn table.numbers) (same_key label_cmp_exact l label t) in omega (arith, same)
+  more_drawn : (l : Label) → last_drawn table.numbers l ≤ last_drawn (map.insert table.numbers label (last + 1)) l
+  more_drawn l = subst (λ n. last_drawn table.numbers l ≤ n) (sym (drawn_after l)) (elim (eq_by_cmp label_cmp l label) as (λ b. eq_by_cmp label_cmp l label ≡ b → last_drawn table.numbers l ≤ cond b (last + 1) (last_drawn table.numbers l)) [
+    | true ↦ λ t. let same : last_drawn table.numbers l ≡ last = ap (last_drawn table.numbers) (same_key label_cmp_exact l label t) in omega (arith, same)
     | false ↦ λ _. omega arith
   ] refl)
 
-  drawn_new : drawn (map.insert table.numbers label (last + 1)) label ≡ last + 1
+  drawn_new : last_drawn (map.insert table.numbers label (last + 1)) label ≡ last + 1
   drawn_new = get_or-found (map.insert table.numbers label (last + 1)) label 0 (last + 1) (get-insert_same label_cmp_total table.numbers label (last + 1))
 
   still_there : (q : Oid) (x : Object) → map.get table.objects q ≡ Some x → map.get (map.insert table.objects (next_in table label) o) q ≡ Some x
   still_there q x e = get-insert_kept oid_cmp_total oid_cmp_exact table.objects (next_in table label) o new_absent q x e
 
-  made_drawn : (q : Oid) (x : Object) → map.get (map.insert table.objects (next_in table label) o) q ≡ Some x → q.n ≤ drawn (map.insert table.numbers label (last + 1)) q.label
+  made_drawn : (q : Oid) (x : Object) → map.get (map.insert table.objects (next_in table label) o) q ≡ Some x → q.n ≤ last_drawn (map.insert table.numbers label (last + 1)) q.label
   made_drawn q x e = elim (set_at table.objects (next_in table label) o q x e) [
-    | inl f ↦ subst (λ (i : Oid). i.n ≤ drawn (map.insert table.numbers label (last + 1)) i.label) (sym f.0) (subst (λ n. last + 1 ≤ n) (sym drawn_new) (omega arith))
+    | inl f ↦ subst (λ (i : Oid). i.n ≤ last_drawn (map.insert table.numbers label (last + 1)) i.label) (sym f.0) (subst (λ n. last + 1 ≤ n) (sym drawn_new) (omega arith))
     | inr f ↦ let low = drawn_already q x f in let more = more_drawn q.label in omega (arith, low, more)
   ]
 
@@ -129,7 +129,7 @@ tree_with_new table t tree label o = record {
 -- the root alone has no entry
 pub tree_alone : (attr : Attr) (t : FinMap spot_cmp Oid) → t ≡ map.empty → IsTree (root_alone attr) t
 tree_alone attr t none = record {
-  drawn_already = subst (λ (table : NodeTable). (id : Oid) (o : Object) → map.get table.objects id ≡ Some o → id.n ≤ drawn table.numbers id.label) (root_made attr)
+  drawn_already = subst (λ (table : NodeTable). (id : Oid) (o : Object) → map.get table.objects id ≡ Some o → id.n ≤ last_drawn table.numbers id.label) (root_made attr)
       (made_drawn no_nodes bottom (object_with bottom attr body.Dir) (λ id o e. absurd (never_some (map.get map.empty id) o (get-empty oid_cmp id) e)));
   dirs = λ spot at e. absurd (never_some (map.get t spot) at (ap (λ (m : FinMap spot_cmp Oid). map.get m spot) none ∙ get-empty spot_cmp spot) e);
   single = λ q several.

@@ -15,7 +15,7 @@ use Rattle.kern_model.specs.Entries.{is_removed, is_under, link_count}
 use Rattle.kern_model.specs.Keys.{Spot, oid_cmp, spot_cmp}
 use Rattle.kern_model.specs.Kinds.{is_dir, object_with}
 use Rattle.kern_model.specs.Maps.{IfPresent}
-use Rattle.kern_model.specs.State.{State, drawn, look, object_at, root}
+use Rattle.kern_model.specs.State.{State, last_drawn, look, object_at, root}
 use Rattle.kern_model.specs.Valid.{IsDir}
 use Rattle.fs_nodes.specs.Nodes.{NodeSlots, NodeTable, with_object}
 use Rattle.fs_dirs.specs.Entries.{entries_alone, name_count}
@@ -63,13 +63,13 @@ pub record IsNoDir (objects : FinMap oid_cmp Object) (id : Oid) : Type 0 where
 
 -- objects have numbers that were drawn, entries stand in directories, and a directory never has several names
 pub record IsTree (table : NodeTable) (entries : FinMap spot_cmp Oid) : Type 0 where
-  pub drawn_already : (id : Oid) (o : Object) → map.get table.objects id ≡ Some o → id.n ≤ drawn table.numbers id.label
+  pub drawn_already : (id : Oid) (o : Object) → map.get table.objects id ≡ Some o → id.n ≤ last_drawn table.numbers id.label
   pub dirs : (spot : Spot) (id : Oid) → map.get entries spot ≡ Some id → IsDir table.objects spot.0
   pub single : (id : Oid) → 1 < name_count entries id → IsNoDir table.objects id
 
 -- objects have numbers that were drawn, entries stand in directories, an object has few names, and a directory never several
 pub record AreEntries (table : NodeTable) (entries : FinMap spot_cmp Oid) : Type 0 where
-  pub drawn_already : (id : Oid) (o : Object) → map.get table.objects id ≡ Some o → id.n ≤ drawn table.numbers id.label
+  pub drawn_already : (id : Oid) (o : Object) → map.get table.objects id ≡ Some o → id.n ≤ last_drawn table.numbers id.label
   pub dirs : (spot : Spot) (id : Oid) → map.get entries spot ≡ Some id → IsDir table.objects spot.0
   pub few : (id : Oid) → name_count entries id ≤ MAX_LINKS
   pub single : (id : Oid) → 1 < name_count entries id → IsNoDir table.objects id

@@ -7,7 +7,7 @@ ghost use Rattle.kern_model.specs.Entries.{entry_count, is_empty, is_removed, is
 ghost use Rattle.kern_model.specs.FileRows.{written_over};
 ghost use Rattle.kern_model.specs.Kinds.{is_dir, object_with};
 ghost use Rattle.kern_model.specs.Rules.{is_above_holders};
-ghost use Rattle.kern_model.specs.State.{State, drawn, look, object_at, root};
+ghost use Rattle.kern_model.specs.State.{State, last_drawn, look, object_at, root};
 ghost use Rattle.lab_lattice.specs.Label.{dominates};
 ghost use Rattle.kern_model.specs.Valid.{IsDir, IsThere};
 ghost use Rattle.kern_model.specs.declared.limits.TheConstants.{MAX_FILE_BYTES, MAX_OBJECTS};
@@ -260,7 +260,7 @@ impl Tree {
     pub fn create(&mut self, label: Label, attr: Attr, body: Body) -> Result<Oid, NodeError>
         ensures id { IfOk result (λ id. id ≡ next_in self.old.nodes.table label) }
         ensures made { OnOk result (self.new.nodes.table ≡ with_new self.old.nodes.table label (object_with label attr body)) }
-        ensures full { (result ≡ Err NodeError.Full) ↔ (MAX_OBJECTS ≤ drawn self.old.nodes.table.numbers label) }
+        ensures full { (result ≡ Err NodeError.Full) ↔ (MAX_OBJECTS ≤ last_drawn self.old.nodes.table.numbers label) }
         ensures err { OnErr result (self.new.nodes.table ≡ self.old.nodes.table) }
         ensures entries { self.new.entries ≡ self.old.entries }
     {

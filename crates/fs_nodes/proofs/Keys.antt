@@ -14,7 +14,7 @@ use Rattle.kern_model.specs.Keys.{oid_cmp}
 use Rattle.kern_model.specs.LabelLists.{IsSet, Lists, items_in, list_at}
 use Rattle.kern_model.specs.Maps as maps
 use Rattle.kern_model.specs.Maps.{select}
-use Rattle.kern_model.specs.State.{drawn}
+use Rattle.kern_model.specs.State.{last_drawn}
 use Rattle.kern_model.proofs.ByNumber.{get-items_by, items_by-set}
 use Rattle.kern_model.proofs.KeyLaws.{oid_cmp_total, oid_cmp_exact}
 use Rattle.kern_model.proofs.MapLemmas.{get_or-absent, get_or-found}
@@ -86,7 +86,7 @@ module _ (lists : Lists ℕ) where
   get-keys_in q = get-items_by oid_cmp_total oid_cmp_exact oids counted q ∙ at_count q.label q.n
 
   -- the last number drawn of a label is the length of its list
-  drawn-numbers_in : (label : Label) → drawn (numbers_in lists) label ≡ length (list_at lists label)
+  drawn-numbers_in : (label : Label) → last_drawn (numbers_in lists) label ≡ length (list_at lists label)
   unfolding numbers_in
   drawn-numbers_in label = at_each length (λ n. n) length lists label [] 0 refl (λ _. refl)
 
@@ -126,11 +126,11 @@ module _ (lists : Lists ℕ) (old : NodeKeys) (view : viewed lists ≡ old) wher
   pub key_is : (id : Oid) (list : List ℕ) → list_at lists id.label ≡ list → map.get old.keys id ≡ get_or (from_one list) id.n None
   key_is id list is = ap (λ (k : NodeKeys). map.get k.keys id) (sym view) ∙ get-keys_in lists id ∙ ap (λ (r : List ℕ). get_or (from_one r) id.n None) is
 
-  pub drawn_is : (label : Label) (list : List ℕ) → list_at lists label ≡ list → drawn old.numbers label ≡ length list
-  drawn_is label list is = ap (λ (k : NodeKeys). drawn k.numbers label) (sym view) ∙ drawn-numbers_in lists label ∙ ap length is
+  pub drawn_is : (label : Label) (list : List ℕ) → list_at lists label ≡ list → last_drawn old.numbers label ≡ length list
+  drawn_is label list is = ap (λ (k : NodeKeys). last_drawn k.numbers label) (sym view) ∙ drawn-numbers_in lists label ∙ ap length is
 
   -- a new object under the next number, its key at the end of the list of its label
-  module _ (id : Oid) (key : ℕ) (next : id.n ≡ drawn old.numbers id.label + 1) (list : List ℕ) (is : list_at lists id.label ≡ list) where
+  module _ (id : Oid) (key : ℕ) (next : id.n ≡ last_drawn old.numbers id.label + 1) (list : List ℕ) (is : list_at lists id.label ≡ list) where
     pub entered : (new : Lists ℕ) (new_list : List ℕ) → new ≡ map.insert lists id.label new_list → new_list ≡ list ++ key ∷ [] → viewed new ≡ with_key old id key
     entered new new_list set added =
         let long : length (list_at lists id.label) + 1 ≡ id.n = ap (λ n. n + 1) (sym (drawn_is id.label (list_at lists id.label) refl)) ∙ sym next in

@@ -10,7 +10,7 @@ use Rattle.kern_model.specs.declared.numbers.Oid.{Oid}
 use Rattle.kern_model.specs.declared.objects.Object.{Object}
 use Rattle.kern_model.specs.Keys.{oid_cmp, same_oid}
 use Rattle.kern_model.proofs.KeyLaws.{oid_cmp_total, oid_cmp_exact}
-use Rattle.kern_model.specs.State.{drawn}
+use Rattle.kern_model.specs.State.{last_drawn}
 use Rattle.kern_model.proofs.MapLemmas.{same_key, some_same, get-insert_same, get_or-found}
 use Rattle.kern_model.proofs.TableLemmas.{each_set_at}
 use Rattle.fs_nodes.specs.Nodes.{IsPlaced, objects_in}
@@ -29,7 +29,7 @@ placed_reserved slots capacity keys numbers placed = record {
   drawn_already = placed.drawn_already;
 }
 
-module _ {slots : Slab Object} {keys : FinMap oid_cmp ℕ} {numbers : FinMap label_cmp ℕ} (placed : IsPlaced slots keys numbers) (id : Oid) (next : id.n ≡ drawn numbers id.label + 1) where
+module _ {slots : Slab Object} {keys : FinMap oid_cmp ℕ} {numbers : FinMap label_cmp ℕ} (placed : IsPlaced slots keys numbers) (id : Oid) (next : id.n ≡ last_drawn numbers id.label + 1) where
   -- no object has the number that is drawn next
   pub fresh : map.get keys id ≡ None
   fresh = elim (map.get keys id) as (λ w. map.get keys id ≡ w → w ≡ None) [
@@ -82,15 +82,15 @@ module _ {slots : Slab Object} {keys : FinMap oid_cmp ℕ} {numbers : FinMap lab
     ] refl
 
     -- the last number drawn of a label never gets smaller
-    rises : (l : Label) → drawn numbers l ≤ drawn (map.insert numbers id.label id.n) l
-    rises = each_set_at label_cmp_total label_cmp_exact (λ l n. drawn numbers l ≤ n) 0 numbers id.label id.n (omega (arith, next)) (λ l. omega arith)
+    rises : (l : Label) → last_drawn numbers l ≤ last_drawn (map.insert numbers id.label id.n) l
+    rises = each_set_at label_cmp_total label_cmp_exact (λ l n. last_drawn numbers l ≤ n) 0 numbers id.label id.n (omega (arith, next)) (λ l. omega arith)
 
-    now_drawn : drawn (map.insert numbers id.label id.n) id.label ≡ id.n
+    now_drawn : last_drawn (map.insert numbers id.label id.n) id.label ≡ id.n
     now_drawn = get_or-found (map.insert numbers id.label id.n) id.label 0 id.n (get-insert_same label_cmp_total numbers id.label id.n)
 
-    drawn_made : (q : Oid) (k : ℕ) → map.get (map.insert keys id key) q ≡ Some k → q.n ≤ drawn (map.insert numbers id.label id.n) q.label
-    drawn_made q k e = elim (same_oid q id) as (λ b. same_oid q id ≡ b → q.n ≤ drawn (map.insert numbers id.label id.n) q.label) [
-      | true ↦ λ t. subst (λ (x : Oid). x.n ≤ drawn (map.insert numbers id.label id.n) x.label) (sym (same_key oid_cmp_exact q id t)) (omega (arith, now_drawn))
+    drawn_made : (q : Oid) (k : ℕ) → map.get (map.insert keys id key) q ≡ Some k → q.n ≤ last_drawn (map.insert numbers id.label id.n) q.label
+    drawn_made q k e = elim (same_oid q id) as (λ b. same_oid q id ≡ b → q.n ≤ last_drawn (map.insert numbers id.label id.n) q.label) [
+      | true ↦ λ t. subst (λ (x : Oid). x.n ≤ last_drawn (map.insert numbers id.label id.n) x.label) (sym (same_key oid_cmp_exact q id t)) (omega (arith, now_drawn))
       | false ↦ λ f.
           let low = placed.drawn_already q k (sym (at_old q f) ∙ e) in
           let more = rises q.label in

@@ -13,7 +13,7 @@ use Rattle.kern_model.specs.FileRows.{written_over}
 use Rattle.kern_model.specs.Keys.{oid_cmp, same_oid}
 use Rattle.kern_model.specs.Kinds.{is_stream}
 use Rattle.kern_model.specs.Maps.{get_or, select}
-use Rattle.kern_model.specs.State.{drawn}
+use Rattle.kern_model.specs.State.{last_drawn}
 
 -- the objects, and the last number drawn of each label
 pub record NodeTable : Type 0 where
@@ -55,7 +55,7 @@ no_nodes = record { objects = map.empty; numbers = map.empty }
 
 -- the number of the next object at a label
 abbrev pub next_in : NodeTable → Label → Oid
-next_in t l = record { label = l; n = drawn t.numbers l + 1 }
+next_in t l = record { label = l; n = last_drawn t.numbers l + 1 }
 
 -- an object in place of the one with its number
 abbrev pub with_object : NodeTable → Oid → Object → NodeTable
@@ -75,7 +75,7 @@ with_bytes objects id o bytes = map.insert objects id (record o { bytes = bytes 
 
 -- a new object under the next number of a label
 abbrev pub with_new : NodeTable → Label → Object → NodeTable
-with_new t l o = record { objects = map.insert t.objects (next_in t l) o; numbers = map.insert t.numbers l (drawn t.numbers l + 1) }
+with_new t l o = record { objects = map.insert t.objects (next_in t l) o; numbers = map.insert t.numbers l (last_drawn t.numbers l + 1) }
 
 -- the key of a new object, whose number is then the last one drawn of its label
 abbrev pub with_key : NodeKeys → Oid → ℕ → NodeKeys
@@ -86,12 +86,12 @@ abbrev pub ForBytes : FinMap oid_cmp Object → Oid → (List ℕ → (List ℕ 
 ForBytes objects id P = (o : Object) → map.get objects id ≡ Some o → P o.bytes (with_bytes objects id o)
 
 -- how many bytes a buffer takes
-abbrev pub fitting : List ℕ → List ℕ → ℕ
-fitting bytes buf = min (length bytes) (length buf)
+abbrev pub copy_len : List ℕ → List ℕ → ℕ
+copy_len bytes buf = min (length bytes) (length buf)
 
 -- the next number of a label is given exactly where one is left
 abbrev pub IsNextIn : FinMap label_cmp ℕ → Label → Option Oid → Type 0
-IsNextIn numbers l next = MatchOption next (MAX_OBJECTS ≤ drawn numbers l) (λ id. (id ≡ record { label = l; n = drawn numbers l + 1 }) × (drawn numbers l < MAX_OBJECTS))
+IsNextIn numbers l next = MatchOption next (MAX_OBJECTS ≤ last_drawn numbers l) (λ id. (id ≡ record { label = l; n = last_drawn numbers l + 1 }) × (last_drawn numbers l < MAX_OBJECTS))
 
 -- written from an offset on, the bytes would make a file too big
 abbrev pub IsTooBig : List ℕ → ℕ → List ℕ → Type 0
@@ -122,4 +122,4 @@ pub record IsPlaced (slots : Slab Object) (keys : FinMap oid_cmp ℕ) (numbers :
   pub there : (id : Oid) (key : ℕ) → map.get keys id ≡ Some key → IsSome (get slots key)
   pub apart : (a b : Oid) (key : ℕ) → map.get keys a ≡ Some key → map.get keys b ≡ Some key → same_oid a b ≡ true
   pub size : slab_len slots ≡ map.len (objects_in slots keys)
-  pub drawn_already : (id : Oid) (key : ℕ) → map.get keys id ≡ Some key → id.n ≤ drawn numbers id.label
+  pub drawn_already : (id : Oid) (key : ℕ) → map.get keys id ≡ Some key → id.n ≤ last_drawn numbers id.label

@@ -5,7 +5,7 @@ ghost use Rattle.std.specs.FinMap.{FinMap};
 ghost use Rattle.kern_model.specs.Keys.{oid_cmp};
 ghost use Rattle.kern_model.specs.declared.objects.Object.{Object as Value};
 ghost use Rattle.kern_model.specs.Maps.{IfPresent};
-ghost use Rattle.fs_nodes.specs.Nodes.{FitsPipe, ForBytes, IsStream, fitting};
+ghost use Rattle.fs_nodes.specs.Nodes.{FitsPipe, ForBytes, IsStream, copy_len};
 
 use crate::NoMemory;
 use kern_model::{Object, Oid};
@@ -34,7 +34,7 @@ pub trait Buffers {
     /// It does not allocate.
     fn take_bytes(&mut self, id: &Oid, buf: &mut [u8]) -> usize
         requires stream { IsStream (objects self.old) id.now }
-        ensures count { IfPresent (objects self.old) id.now (λ o. result ≡ fitting o.bytes buf.old) }
+        ensures count { IfPresent (objects self.old) id.now (λ o. result ≡ copy_len o.bytes buf.old) }
         ensures taken { IfPresent (objects self.old) id.now (λ o. buf.new ≡ take result o.bytes ++ drop result buf.old) }
         ensures left { ForBytes (objects self.old) id.now (λ old with_bytes. objects self.new ≡ with_bytes (drop result old)) }
         ensures rest { rest_same self.old self.new };

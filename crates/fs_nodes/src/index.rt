@@ -1,6 +1,6 @@
 // Where objects are in the slab, and which numbers are drawn.
 ghost use Rattle.std.specs.Prelude.{◌≡◌, ◌+◌, ◌<◌, Some, OnErr, OnOk};
-ghost use Rattle.kern_model.specs.State.{drawn};
+ghost use Rattle.kern_model.specs.State.{last_drawn};
 ghost use Rattle.kern_model.specs.declared.limits.TheConstants.{MAX_OBJECTS};
 ghost use Rattle.kern_model.specs.Valid.{IsThere};
 ghost use Rattle.fs_nodes.specs.Nodes.{IsNextIn, with_key};
@@ -73,7 +73,7 @@ impl Index {
 
     // The last number drawn of a label, or 0 before the first.
     fn last(&self, label: &Label) -> u16
-        ensures { result ≡ drawn self.now.numbers label.now }
+        ensures { result ≡ last_drawn self.now.numbers label.now }
     {
         match self.by_label.get(label) {
             Some(keys) => keys.last(),
@@ -95,8 +95,8 @@ impl Index {
 
     /// Enters a new object under the next number, which is the last one drawn from then on.
     pub fn enter(&mut self, id: &Oid, key: usize) -> Result<(), NoMemory>
-        requires next { id.now.n ≡ drawn self.old.numbers id.now.label + 1 }
-        requires left { drawn self.old.numbers id.now.label < MAX_OBJECTS }
+        requires next { id.now.n ≡ last_drawn self.old.numbers id.now.label + 1 }
+        requires left { last_drawn self.old.numbers id.now.label < MAX_OBJECTS }
         ensures ok { OnOk result (self.new ≡ with_key self.old id.now key) }
         ensures err { OnErr result (self.new ≡ self.old) }
     {

@@ -5,7 +5,7 @@ ghost use Rattle.std.specs.FinMap as map;
 ghost use Rattle.slab.specs.Slab.{get, slab_len};
 ghost use Rattle.kern_model.specs.Keys.{same_oid};
 ghost use Rattle.kern_model.specs.Kinds.{object_with};
-ghost use Rattle.kern_model.specs.State.{drawn};
+ghost use Rattle.kern_model.specs.State.{last_drawn};
 ghost use Rattle.kern_model.specs.FileRows.{written_over};
 ghost use Rattle.kern_model.specs.Valid.{IsThere};
 ghost use Rattle.kern_model.specs.declared.limits.TheConstants.{MAX_OBJECTS};
@@ -13,7 +13,7 @@ ghost use Rattle.kern_model.specs.declared.numbers.Oid.{Oid as Number};
 ghost use Rattle.kern_model.specs.declared.objects.Object.{Object as Value};
 ghost use Rattle.fs_nodes.specs.Lending.{LendsSlot};
 ghost use Rattle.kern_model.specs.Maps.{IfPresent};
-ghost use Rattle.fs_nodes.specs.Nodes.{FitsPipe, ForBytes, IsFile, IsTooBig, fitting, next_in, no_nodes, with_new, with_object, with_written};
+ghost use Rattle.fs_nodes.specs.Nodes.{FitsPipe, ForBytes, IsFile, IsTooBig, copy_len, next_in, no_nodes, with_new, with_object, with_written};
 
 use crate::NoMemory;
 use crate::buffers::Buffers;
@@ -148,7 +148,7 @@ impl Nodes {
 
     /// Whether a number of a label is left.
     pub fn can_create(&self, label: &Label) -> bool
-        ensures { result ≡ nat_lt (drawn self.now.table.numbers label.now) MAX_OBJECTS }
+        ensures { result ≡ nat_lt (last_drawn self.now.table.numbers label.now) MAX_OBJECTS }
     {
         self.index.next(label).is_some()
     }
@@ -157,7 +157,7 @@ impl Nodes {
     pub fn create(&mut self, label: Label, attr: Attr, body: Body) -> Result<Oid, NodeError>
         ensures id { IfOk result (λ id. id ≡ next_in self.old.table label) }
         ensures made { OnOk result (self.new.table ≡ with_new self.old.table label (object_with label attr body)) }
-        ensures full { (result ≡ Err NodeError.Full) ↔ (MAX_OBJECTS ≤ drawn self.old.table.numbers label) }
+        ensures full { (result ≡ Err NodeError.Full) ↔ (MAX_OBJECTS ≤ last_drawn self.old.table.numbers label) }
         ensures err { OnErr result (self.new.table ≡ self.old.table) }
     {
         let object = object_from(self.alloc, label, attr, body);

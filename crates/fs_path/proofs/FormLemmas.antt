@@ -9,7 +9,7 @@ use Rattle.std.proofs.lemmas.List.Folds.{length-prefix_len}
 use Rattle.std.proofs.lemmas.Option.{cond_some, option_and_then_some, same_Some}
 use Rattle.fs_path.specs.declared.words.LineWord.{LineWord}
 use Rattle.fs_path.specs.Split.{onto_piece}
-use Rattle.fs_path.specs.Words.{is_space, is_plain, is_bare, is_bare_text, hex_value, hex_pair, escaped, first_item, items_within, items_of, quoted_word, leading_word, apart, is_apart, first_word, trim_spaces, words_by, words_within, words_of}
+use Rattle.fs_path.specs.Words.{is_space, is_plain, is_bare, is_bare_text, hex_value, hex_pair, escape_value, first_item, items_within, items_of, quoted_word, leading_word, apart, is_apart, first_word, trim_spaces, words_by, words_within, words_of}
 use Rattle.fs_path.specs.LineForm.{IsItem, Plain, Quote, Backslash, Coded, AreItems, NoItem, ItemMore, IsSpelling, Bare, Quoted, HasWords, NoWord, WordMore}
 use Rattle.fs_path.proofs.WordSteps.{items_next, words_are, words_first}
 
@@ -25,7 +25,7 @@ plain_is_not b n other plain = ne_eqb b n (λ same. let no : false ≡ true = sy
 -- an item is read as its byte
 pub item_begins : (b : ℕ) (item more : List ℕ) → IsItem b item → Begins b more item
 item_begins b item more (Plain x plain) = (
-  cond-false (x == 92) (escaped more) (cond (is_plain x) (Some (x, more)) None) (plain_is_not x 92 refl plain) ∙ cond-true (is_plain x) (Some (x, more)) None plain,
+  cond-false (x == 92) (escape_value more) (cond (is_plain x) (Some (x, more)) None) (plain_is_not x 92 refl plain) ∙ cond-true (is_plain x) (Some (x, more)) None plain,
   eqb-false x 34 (plain_is_not x 34 refl plain),
 )
 item_begins b item more Quote = (refl, λ q. absurd (omega arith))
@@ -123,7 +123,7 @@ pair_form (h ∷ l ∷ rest) more b is = by_values (hex_value h) refl (hex_value
     by_values (Some high) e (Some low) k is =
         subst (λ (p : ℕ × List ℕ). Leaves (IsItem p.0) (92 ∷ 120 ∷ h ∷ l ∷ rest) p.1) (same_Some (16 * high + low, rest) (b, more) is) (92 ∷ 120 ∷ h ∷ l ∷ [], (Coded h l high low e k, refl))
 
-escape_form : (text more : List ℕ) (b : ℕ) → escaped text ≡ Some (b, more) → Leaves (IsItem b) (92 ∷ text) more
+escape_form : (text more : List ℕ) (b : ℕ) → escape_value text ≡ Some (b, more) → Leaves (IsItem b) (92 ∷ text) more
 escape_form [] more b is = absurd (cc)
 escape_form (x ∷ xs) more b is =
     cond_both (x == 34 || x == 92) (Some (x, xs)) (cond (x == 120) (hex_pair xs) None) Fits
@@ -143,7 +143,7 @@ escape_form (x ∷ xs) more b is =
 item_form : (text more : List ℕ) (b : ℕ) → first_item text ≡ Some (b, more) → Leaves (IsItem b) text more
 item_form [] more b is = absurd (cc)
 item_form (x ∷ xs) more b is =
-    cond_both (x == 92) (escaped xs) (cond (is_plain x) (Some (x, xs)) None) Fits (λ slash is. subst (λ n. Leaves (IsItem b) (n ∷ xs) more) (sym (eqb-true x 92 slash)) (escape_form xs more b is))
+    cond_both (x == 92) (escape_value xs) (cond (is_plain x) (Some (x, xs)) None) Fits (λ slash is. subst (λ n. Leaves (IsItem b) (n ∷ xs) more) (sym (eqb-true x 92 slash)) (escape_form xs more b is))
     (λ _. cond_both (is_plain x) (Some (x, xs)) None Fits (λ plain is. subst (λ (p : ℕ × List ℕ). Leaves (IsItem p.0) (x ∷ xs) p.1) (same_Some (x, xs) (b, more) is) (x ∷ [], (Plain x plain, refl))) (λ _ is. absurd (cc))) is
   where
     Fits : Option (ℕ × List ℕ) → Type 0

@@ -10,7 +10,7 @@ use Rattle.std.proofs.lemmas.List.Sums.{sum_by-cons}
 use Rattle.std.proofs.lemmas.List.{length-map}
 use Rattle.fs_path.specs.Name.{Name, is_name, is_dots}
 use Rattle.fs_path.specs.Path.{HasForm, written_len}
-use Rattle.fs_path.specs.Split.{Piece, pieces, placed}
+use Rattle.fs_path.specs.Split.{Piece, pieces, pieces_at}
 use Rattle.fs_path.specs.PathText.{is_slash, has_no_slash, is_empty_or_dot, starts_badly, counts, names_of, component_fault, first_fault, components_of, path_fault, parse_path}
 
 -- ---- pieces
@@ -50,12 +50,12 @@ written_pieces (x ∷ xs) = by_head (is_slash x) (written_pieces xs)
     by_head false h = let more = written_onto x (length xs) (pieces 47 xs) h in omega arith
 
 -- the pieces that count, each with a slash before it, take no more than all pieces do
-written_kept : (at : ℕ) (ps : List (List ℕ)) → written_len (names_of (filter counts (placed at ps))) ≤ written_len ps
+written_kept : (at : ℕ) (ps : List (List ℕ)) → written_len (names_of (filter counts (pieces_at at ps))) ≤ written_len ps
 written_kept at [] = omega arith
 written_kept at (p ∷ ps) = by_head (counts (record { at = at; bytes = p })) (written_kept (at + length p + 1) ps)
   where
     left : List Piece
-    left = filter counts (placed (at + length p + 1) ps)
+    left = filter counts (pieces_at (at + length p + 1) ps)
 
     by_head : (v : Bool) → written_len (names_of left) ≤ written_len ps → written_len (names_of (cond v (record { at = at; bytes = p } ∷ left) left)) ≤ written_len (p ∷ ps)
     by_head true h =
@@ -128,14 +128,14 @@ is_name_without_fault count at bytes some clear h =
     and_from _ _ (and_from _ _ (and_from _ _ (le-leb 1 (length bytes) (some_byte bytes some)) (le-leb (length bytes) 63 fine.short))
     (both (λ b. not (b == 0)) (λ b. not (b == 47)) bytes (no_zero bytes fine.whole) clear)) (ap not (no_dots bytes some fine.good))
 
-all_names : (count at : ℕ) (ps : List (List ℕ)) → list_all has_no_slash ps ≡ true → first_fault count (filter counts (placed at ps)) ≡ None → list_all is_name (names_of (filter counts (placed at ps))) ≡ true
+all_names : (count at : ℕ) (ps : List (List ℕ)) → list_all has_no_slash ps ≡ true → first_fault count (filter counts (pieces_at at ps)) ≡ None → list_all is_name (names_of (filter counts (pieces_at at ps))) ≡ true
 all_names count at [] clear h = refl
 all_names count at (p ∷ ps) clear h =
     let parts = and_parts (has_no_slash p) (list_all has_no_slash ps) clear in
     by_head (is_empty_or_dot p) refl parts.0 (λ n k. all_names n (at + length p + 1) ps parts.1 k) h
   where
     left : List Piece
-    left = filter counts (placed (at + length p + 1) ps)
+    left = filter counts (pieces_at (at + length p + 1) ps)
 
     by_head : (v : Bool) → is_empty_or_dot p ≡ v → has_no_slash p ≡ true → ((n : ℕ) → first_fault n left ≡ None → list_all is_name (names_of left) ≡ true)
         → first_fault count (cond (not v) (record { at = at; bytes = p } ∷ left) left) ≡ None
@@ -183,7 +183,7 @@ written_text (x ∷ xs) = by_head (x == 47) refl
     by_head : (v : Bool) → (x == 47) ≡ v → written_len (names_of (components_of (x ∷ xs))) ≤ suc (length xs) + cond (47 == x && true) 0 1
     by_head true e =
         let is : pieces 47 (x ∷ xs) ≡ [] ∷ pieces 47 xs = ap (λ v. cond v ([] ∷ pieces 47 xs) (onto_first x (pieces 47 xs))) e in
-        let same = ap (λ (ps : List (List ℕ)). written_len (names_of (filter counts (placed 0 ps)))) is in
+        let same = ap (λ (ps : List (List ℕ)). written_len (names_of (filter counts (pieces_at 0 ps)))) is in
         let kept = written_kept 1 (pieces 47 xs) in
         let all = written_pieces xs in
         omega arith

@@ -17,7 +17,7 @@ use Rattle.fs_path.specs.declared.values.TheConstants.{MAX_MODE}
 use Rattle.fs_path.specs.declared.words.LineWord.{LineWord}
 use Rattle.fs_path.specs.Options.{keep_if}
 use Rattle.fs_path.specs.Values.{is_digit, digits_value, numeral, number_of, is_mode, mode_of, numbers_of, few_numbers, groups_of, mode_text, after_commas, groups_text}
-use Rattle.fs_path.specs.Words.{is_plain, is_bare, is_bare_text, hex_value, is_apart, words_of, hex_digit, item_text, quoted_text, appended, has_spelling, with_quotes_if_needed, spelling, after_spaces, line_text}
+use Rattle.fs_path.specs.Words.{is_plain, is_bare, is_bare_text, hex_value, is_apart, words_of, hex_digit, item_text, quoted_text, suffix_after, has_spelling, with_quotes_if_needed, spelling, after_spaces, line_text}
 use Rattle.fs_path.specs.LineForm.{IsItem, Plain, Quote, Backslash, Coded, AreItems, NoItem, ItemMore, IsSpelling, Bare, Quoted, HasWords, NoWord, WordMore}
 use Rattle.fs_path.proofs.FormLemmas.{words_read}
 
@@ -261,5 +261,5 @@ quoted_round_trip bytes small =
 -- ---- what was appended
 
 -- what is appended to a text has what the appended text has
-pub of_appended : (P : List ℕ → Type 0) (old new text : List ℕ) → new ≡ old ++ text → P text → P (appended old new)
+pub of_appended : (P : List ℕ → Type 0) (old new text : List ℕ) → new ≡ old ++ text → P text → P (suffix_after old new)
 of_appended P old new text is h = subst P (sym (ap (drop (length old)) is ∙ drop-append_seam old text)) h

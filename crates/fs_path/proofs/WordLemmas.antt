@@ -6,7 +6,7 @@ use Rattle.std.proofs.Common.{inl, inr, subst, ◌≡◌, ℕ, List, [], ◌∷�
 use Rattle.std.specs.Option.{option_map}
 use Rattle.fs_path.specs.declared.words.LineWord.{LineWord}
 use Rattle.fs_path.specs.Split.{onto_piece, split_once}
-use Rattle.fs_path.specs.Words.{escaped, first_item, is_plain, items_of, first_word, trim_spaces, words_by, words_of}
+use Rattle.fs_path.specs.Words.{escape_value, first_item, is_plain, items_of, first_word, trim_spaces, words_by, words_of}
 use Rattle.fs_path.proofs.WordSteps.{items_next, words_are, words_first}
 
 -- the bytes that were read, followed by those of the rest
@@ -42,7 +42,7 @@ plain_items (x ∷ xs) bytes rest is plain = elim (cases_Bool (x == 34)) [ inl e
     more e for_rest p some all =
         let parts = and_parts (is_plain x) (list_all is_plain p.0) all in
         let no_escape : (x == 92) ≡ false = ne_eqb x 92 (λ same. let no : false ≡ true = subst (λ n. is_plain n ≡ true) same parts.0 in cc) in
-        let first : first_item (x ∷ xs) ≡ Some (x, xs) = cond-false (x == 92) (escaped xs) (cond (is_plain x) (Some (x, xs)) None) no_escape ∙ cond-true (is_plain x) (Some (x, xs)) None parts.0 in
+        let first : first_item (x ∷ xs) ≡ Some (x, xs) = cond-false (x == 92) (escape_value xs) (cond (is_plain x) (Some (x, xs)) None) no_escape ∙ cond-true (is_plain x) (Some (x, xs)) None parts.0 in
         items_next (x ∷ xs) xs x (eqb-false x 34 e) first ∙ ap (onto_piece x) (for_rest p some parts.1)
 
     before_quote : (x == 34) ≡ false → AreItems xs → (o : Option (List ℕ × List ℕ)) → split_once 34 xs ≡ o → items_of (x ∷ xs) ≡ Some (bytes, rest)

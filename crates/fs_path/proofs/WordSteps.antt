@@ -7,7 +7,7 @@ use Rattle.std.proofs.lemmas.Bool.{cond_both, ne_eqb}
 use Rattle.std.proofs.lemmas.List.{length-drop, length-take}
 use Rattle.fs_path.specs.declared.words.LineWord.{LineWord}
 use Rattle.fs_path.specs.Split.{onto_piece}
-use Rattle.fs_path.specs.Words.{is_space, is_plain, is_bare, hex_value, hex_pair, escaped, first_item, items_within, items_of, quoted_word, leading_word, apart, is_apart, first_word, trim_spaces, words_by, words_within, words_of}
+use Rattle.fs_path.specs.Words.{is_space, is_plain, is_bare, hex_value, hex_pair, escape_value, first_item, items_within, items_of, quoted_word, leading_word, apart, is_apart, first_word, trim_spaces, words_by, words_within, words_of}
 
 -- ---- items between quotes
 
@@ -26,7 +26,7 @@ pair_shorter (h ∷ l ∷ rest) = by_values (hex_value h) (hex_value l)
     by_values (Some high) None = tt
     by_values (Some high) (Some low) = omega arith
 
-escape_shorter : (text : List ℕ) → AtMost (length text) (escaped text)
+escape_shorter : (text : List ℕ) → AtMost (length text) (escape_value text)
 escape_shorter [] = tt
 escape_shorter (b ∷ bs) =
     let fewer : length bs ≤ length (b ∷ bs) = omega arith in
@@ -41,7 +41,7 @@ escape_shorter (b ∷ bs) =
 pub item_shorter : (b : ℕ) (bs : List ℕ) → AtMost (length bs) (first_item (b ∷ bs))
 item_shorter b bs =
     let same : length bs ≤ length bs = omega arith in
-    cond_both (b == 92) (escaped bs) (cond (is_plain b) (Some (b, bs)) None) (AtMost (length bs)) (λ _. escape_shorter bs)
+    cond_both (b == 92) (escape_value bs) (cond (is_plain b) (Some (b, bs)) None) (AtMost (length bs)) (λ _. escape_shorter bs)
     (λ _. cond_both (is_plain b) (Some (b, bs)) None (AtMost (length bs)) (λ _. same) (λ _. tt))
 
 -- a limit on the number of items has no effect where it is at least the length of the text

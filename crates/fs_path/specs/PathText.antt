@@ -5,7 +5,7 @@ use Rattle.std.specs.List.{filter, list_all, position, starts_with}
 use Rattle.std.specs.Option.{option_map, option_or}
 use Rattle.fs_path.specs.Name.{Name}
 use Rattle.fs_path.specs.Path.{PathValue}
-use Rattle.fs_path.specs.Split.{Piece, pieces, placed}
+use Rattle.fs_path.specs.Split.{Piece, pieces, pieces_at}
 use Rattle.fs_path.specs.declared.path.PathError.{PathError}
 use Rattle.fs_path.specs.declared.path.PathError.TheVariants as error
 
@@ -29,7 +29,7 @@ counts c = not (is_empty_or_dot c.bytes)
 
 -- the components of a text: the pieces between slashes that count
 unfoldable pub components_of : List ℕ → List Piece
-components_of text = filter counts (placed 0 (pieces 47 text))
+components_of text = filter counts (pieces_at 0 (pieces 47 text))
 
 -- the bytes of components, in order
 abbrev pub names_of : List Piece → List Name
@@ -84,5 +84,5 @@ abbrev pub has_no_slash : List ℕ → Bool
 has_no_slash bytes = list_all (λ b. not (is_slash b)) bytes
 
 -- one component, if it counts
-abbrev pub kept : ℕ → List ℕ → List Piece
-kept at bytes = filter counts (record { at = at; bytes = bytes } ∷ [])
+abbrev pub counted_component : ℕ → List ℕ → List Piece
+counted_component at bytes = filter counts (record { at = at; bytes = bytes } ∷ [])

@@ -36,6 +36,6 @@ pub record Piece : Type 0 where
   pub bytes : List ℕ
 
 -- pieces with one byte between them, the first of them at a place
-abbrev pub placed : ℕ → List (List ℕ) → List Piece
-placed at [] = []
-placed at (piece ∷ more) = record { at = at; bytes = piece } ∷ placed (at + length piece + 1) more
+abbrev pub pieces_at : ℕ → List (List ℕ) → List Piece
+pieces_at at [] = []
+pieces_at at (piece ∷ more) = record { at = at; bytes = piece } ∷ pieces_at (at + length piece + 1) more

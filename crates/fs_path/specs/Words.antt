@@ -32,14 +32,14 @@ hex_pair (h ∷ []) = None
 hex_pair (h ∷ l ∷ rest) = option_and_then (λ high. option_map (λ low. (16 * high + low, rest)) (hex_value l)) (hex_value h)
 
 -- the byte that an escape denotes, and the text after it: after the backslash `"`, `\`, or `x` and two digits
-abbrev pub escaped : List ℕ → Option (ℕ × List ℕ)
-escaped [] = None
-escaped (b ∷ bs) = cond (b == 34 || b == 92) (Some (b, bs)) (cond (b == 120) (hex_pair bs) None)
+abbrev pub escape_value : List ℕ → Option (ℕ × List ℕ)
+escape_value [] = None
+escape_value (b ∷ bs) = cond (b == 34 || b == 92) (Some (b, bs)) (cond (b == 120) (hex_pair bs) None)
 
 -- the byte that the first item between quotes denotes, and the text after the item
 abbrev pub first_item : List ℕ → Option (ℕ × List ℕ)
 first_item [] = None
-first_item (b ∷ bs) = cond (b == 92) (escaped bs) (cond (is_plain b) (Some (b, bs)) None)
+first_item (b ∷ bs) = cond (b == 92) (escape_value bs) (cond (is_plain b) (Some (b, bs)) None)
 
 -- the bytes that up to n items denote, up to the closing quote, and the text after that
 abbrev pub items_within : ℕ → List ℕ → Option (List ℕ × List ℕ)
@@ -141,5 +141,5 @@ line_text [] = []
 line_text (w ∷ ws) = w ++ after_spaces ws
 
 -- what a text has after an earlier one that it begins with
-abbrev pub appended : List ℕ → List ℕ → List ℕ
-appended old new = drop (length old) new
+abbrev pub suffix_after : List ℕ → List ℕ → List ℕ
+suffix_after old new = drop (length old) new

@@ -3,7 +3,7 @@ ghost use Rattle.std.specs.Prelude.{◌≡◌, ◌+◌, ◌==◌, ◌<◌, ◌�
 ghost use Rattle.std.specs.List.{list_all};
 ghost use Rattle.fs_path.specs.Name.{is_name};
 ghost use Rattle.fs_path.specs.Path.{written_len};
-ghost use Rattle.fs_path.specs.PathText.{names_of, components_of, is_empty_or_dot, starts_badly, component_fault, first_fault, path_fault, parse_path, Says, IsNoPath, has_no_slash, kept};
+ghost use Rattle.fs_path.specs.PathText.{names_of, components_of, is_empty_or_dot, starts_badly, component_fault, first_fault, path_fault, parse_path, Says, IsNoPath, has_no_slash, counted_component};
 
 use crate::name::MAX_NAME;
 use crate::split::{find_byte, first_piece};
@@ -117,9 +117,9 @@ fn take_component(
 ) -> Result<(), PathError>
     requires within { at + length bytes.now < 2 ^ 64 }
     requires no_slash { has_no_slash bytes.now ≡ true }
-    ensures names { OnOk result (names.new ≡ names.old ++ names_of (kept at bytes.now)) }
-    ensures fine { OnOk result (first_fault (length names.old) (kept at bytes.now) ≡ None) }
-    ensures fault { IfErr result (Says (first_fault (length names.old) (kept at bytes.now))) }
+    ensures names { OnOk result (names.new ≡ names.old ++ names_of (counted_component at bytes.now)) }
+    ensures fine { OnOk result (first_fault (length names.old) (counted_component at bytes.now) ≡ None) }
+    ensures fault { IfErr result (Says (first_fault (length names.old) (counted_component at bytes.now))) }
 {
     if is_empty_or_dot(bytes) {
         return Ok(());

@@ -4,7 +4,7 @@ ghost use Rattle.std.specs.Fmt.{decimal};
 ghost use Rattle.std.specs.List.{list_all, slice_split};
 ghost use Rattle.fs_path.specs.Options.{keep_if};
 ghost use Rattle.fs_path.specs.Values.{is_digit, digits_value, numeral, number_of, mode_of, is_mode, numbers_of, groups_of, mode_text, groups_text};
-ghost use Rattle.fs_path.specs.Words.{appended};
+ghost use Rattle.fs_path.specs.Words.{suffix_after};
 
 use crate::{List, NoMemory};
 use itoa::Buffer;
@@ -120,7 +120,7 @@ pub fn groups_of(alloc: Global, word: &[u8]) -> Result<Option<List<u32>>, NoMemo
 #[inline(always)]
 pub fn put_number(text: &mut Vec<u8>, n: u64) -> Result<(), NoMemory>
     ensures text { OnOk result (text.new.items ≡ text.old.items ++ decimal n) }
-    ensures read_back { OnOk result (n ≤ u32.MAX → number_of (appended text.old.items text.new.items) ≡ Some n) }
+    ensures read_back { OnOk result (n ≤ u32.MAX → number_of (suffix_after text.old.items text.new.items) ≡ Some n) }
 {
     text.extend_from_slice(Buffer::new().format(n).as_bytes())
 }
@@ -136,7 +136,7 @@ fn octal_digit(n: u16) -> u8
 #[tactic(auto, unfolding(crate::specs::Values::mode_text))]
 pub fn put_mode(text: &mut Vec<u8>, mode: u16) -> Result<(), NoMemory>
     ensures text { OnOk result (text.new.items ≡ text.old.items ++ mode_text mode) }
-    ensures read_back { OnOk result (IsTrue (is_mode mode) → mode_of (appended text.old.items text.new.items) ≡ Some mode) }
+    ensures read_back { OnOk result (IsTrue (is_mode mode) → mode_of (suffix_after text.old.items text.new.items) ≡ Some mode) }
 {
     text.extend_from_slice(&[
         octal_digit(mode / 512),
@@ -150,7 +150,7 @@ pub fn put_mode(text: &mut Vec<u8>, mode: u16) -> Result<(), NoMemory>
 #[tactic(auto, unfolding(crate::specs::Values::groups_text))]
 pub fn put_groups(text: &mut Vec<u8>, groups: &[u32]) -> Result<(), NoMemory>
     ensures text { OnOk result (text.new.items ≡ text.old.items ++ groups_text groups.now) }
-    ensures read_back { OnOk result (length groups.now ≤ 16 → groups_of (appended text.old.items text.new.items) ≡ Some groups.now) }
+    ensures read_back { OnOk result (length groups.now ≤ 16 → groups_of (suffix_after text.old.items text.new.items) ≡ Some groups.now) }
 {
     let [first, more @ ..] = groups else {
         text.push(b'-')?;

@@ -2,7 +2,7 @@
 ghost use Rattle.std.specs.Prelude.{◌≡◌, ◌↔◌, [], ◌∷◌, ◌++◌, ◌<◌, true, OnOk, IfOk, IfSome, MatchOption, None, Some};
 ghost use Rattle.std.specs.List.{list_all, prefix_len};
 ghost use Rattle.fs_path.specs.LineForm.{HasWords};
-ghost use Rattle.fs_path.specs.Words.{words_of, is_blank, quoted_text, with_quotes_if_needed, spelling, is_plain, is_bare, is_bare_text, hex_value, hex_pair, escaped, first_item, items_of, is_apart, leading_word, first_word, trim_spaces, hex_digit, item_text, appended};
+ghost use Rattle.fs_path.specs.Words.{words_of, is_blank, quoted_text, with_quotes_if_needed, spelling, is_plain, is_bare, is_bare_text, hex_value, hex_pair, escape_value, first_item, items_of, is_apart, leading_word, first_word, trim_spaces, hex_digit, item_text, suffix_after};
 
 use crate::split::split_once;
 use crate::{ByteList, List, NoMemory};
@@ -158,8 +158,8 @@ fn hex_pair(text: &[u8]) -> Option<(u8, &[u8])>
 }
 
 // The byte that an escape denotes, from after its backslash, and the text after the escape.
-fn escaped(text: &[u8]) -> Option<(u8, &[u8])>
-    ensures { MatchOption result (escaped text.now ≡ None) (λ item. escaped text.now ≡ Some (item.0, item.1.now)) }
+fn escape_value(text: &[u8]) -> Option<(u8, &[u8])>
+    ensures { MatchOption result (escape_value text.now ≡ None) (λ item. escape_value text.now ≡ Some (item.0, item.1.now)) }
 {
     let [first, rest @ ..] = text else {
         return None;
@@ -179,7 +179,7 @@ fn first_item(text: &[u8]) -> Option<(u8, &[u8])>
         return None;
     };
     match *first {
-        b'\\' => escaped(rest),
+        b'\\' => escape_value(rest),
         byte if is_plain(byte) => Some((byte, rest)),
         _ => None,
     }
@@ -365,7 +365,7 @@ fn put_item(text: &mut Vec<u8>, byte: u8) -> Result<(), NoMemory>
 #[tactic(auto, unfolding(crate::specs::Words::quoted_text))]
 pub fn put_quoted(text: &mut Vec<u8>, bytes: &[u8]) -> Result<(), NoMemory>
     ensures text { OnOk result (text.new.items ≡ text.old.items ++ quoted_text bytes.now) }
-    ensures read_back { OnOk result (words_of (appended text.old.items text.new.items) ≡ Some (record { quoted = true; bytes = bytes.now } ∷ [])) }
+    ensures read_back { OnOk result (words_of (suffix_after text.old.items text.new.items) ≡ Some (record { quoted = true; bytes = bytes.now } ∷ [])) }
 {
     text.push(b'"')?;
     for byte in bytes {

@@ -9,7 +9,7 @@ use Rattle.std.proofs.lemmas.List.Splits.{slice_split_at}
 use Rattle.gen_world.specs.declared.call.Action.{Action}
 use Rattle.gen_world.specs.declared.call.Action.TheVariants.{Mkdir, Open, Close, Write, Read, Stat, Unlink, Readdir}
 use Rattle.gen_world.specs.declared.call.Call.{Call}
-use Rattle.gen_world.specs.Calls.{call_line, call_of, directory_path, ended, file_path, words_of}
+use Rattle.gen_world.specs.Calls.{call_line, call_of, directory_path, with_line_feed, file_path, words_of}
 use Rattle.gen_world.specs.Text.{gen_lines, gen_text, head_lines, lines_after, step}
 
 abbrev pub NoLineFeed : List ℕ → Type 0
@@ -105,11 +105,11 @@ lines_fit (suc more) number = All-cons (Fits 32) (call_line (call_of (step numbe
 pub gen_lines_fit : (n : ℕ) → All (Fits 32) (gen_lines n)
 gen_lines_fit n = All-append (Fits 32) head_lines (lines_after n n) (all_fit head_lines refl) (lines_fit n n)
 
-split_ended : (lines : List (List ℕ)) → All (Fits 32) lines → slice_split (λ b. b == 10) (concat (map ended lines)) ≡ lines ++ [] ∷ []
+split_ended : (lines : List (List ℕ)) → All (Fits 32) lines → slice_split (λ b. b == 10) (concat (map with_line_feed lines)) ≡ lines ++ [] ∷ []
 split_ended [] all = refl
 split_ended (line ∷ lines) all =
-    ap (slice_split (λ b. b == 10)) (append_assoc line (10 ∷ []) (concat (map ended lines)))
-    ∙ slice_split_at (λ b. b == 10) line 10 (concat (map ended lines)) (All-head (Fits 32) line lines all).one_line refl
+    ap (slice_split (λ b. b == 10)) (append_assoc line (10 ∷ []) (concat (map with_line_feed lines)))
+    ∙ slice_split_at (λ b. b == 10) line 10 (concat (map with_line_feed lines)) (All-head (Fits 32) line lines all).one_line refl
     ∙ ap (λ ls. line ∷ ls) (split_ended lines (All-tail (Fits 32) line lines all))
 
 -- the text, split at its line feeds, is its lines and an empty piece

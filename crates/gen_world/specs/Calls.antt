@@ -39,5 +39,5 @@ abbrev pub call_line : Call → List ℕ
 call_line call = codes "1@l" ++ decimal call.level ++ codes " " ++ words_of call.action call
 
 -- a line with its line feed
-abbrev pub ended : List ℕ → List ℕ
-ended line = line ++ codes "\n"
+abbrev pub with_line_feed : List ℕ → List ℕ
+with_line_feed line = line ++ codes "\n"

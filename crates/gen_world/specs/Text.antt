@@ -1,12 +1,12 @@
 -- The generated text.
 use Rattle.std.specs.Prelude.{ℕ, ◌+◌, ◌*◌, ◌%◌, Bool, true, cond, zero, suc, List, [], ◌∷◌, ◌++◌, codes, map}
 use Rattle.std.specs.List.{concat}
-use Rattle.gen_world.specs.Calls.{call_of, call_line, ended}
+use Rattle.gen_world.specs.Calls.{call_of, call_line, with_line_feed}
 
 -- the world of each generated text, line by line
 abbrev pub head_lines : List (List ℕ)
 head_lines =
-    codes "world 1"
+    codes "world 2"
     ∷ codes "levels l0 l1 l2 l3"
     ∷ codes "categories c0 c1"
     ∷ codes "bound all"
@@ -37,13 +37,13 @@ gen_lines n = head_lines ++ lines_after n n
 
 -- the generated text for n
 unfoldable pub gen_text : ℕ → List ℕ
-gen_text n = concat (map ended (gen_lines n))
+gen_text n = concat (map with_line_feed (gen_lines n))
 
 -- ---- piece by piece
 
 -- the pieces that are left: the world unless it was given, then so many lines after a number
 abbrev pub pieces_left : Bool → ℕ → ℕ → List (List ℕ)
-pieces_left world_is_left left number = cond world_is_left (concat (map ended head_lines) ∷ map ended (lines_after left number)) (map ended (lines_after left number))
+pieces_left world_is_left left number = cond world_is_left (concat (map with_line_feed head_lines) ∷ map with_line_feed (lines_after left number)) (map with_line_feed (lines_after left number))
 
 -- the pieces of the generated text for n: the world, then each line
 abbrev pub pieces : ℕ → List (List ℕ)

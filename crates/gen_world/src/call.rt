@@ -1,7 +1,7 @@
 // Generated calls, and the lines that they are written as.
 ghost use Rattle.std.specs.Prelude.{◌≡◌, ◌++◌, ◌∷◌, [], codes, IfOk, OnOk};
 ghost use Rattle.std.specs.Fmt.{decimal};
-ghost use Rattle.gen_world.specs.Calls.{call_line, call_of, directory_path, ended, file_path, words_of};
+ghost use Rattle.gen_world.specs.Calls.{call_line, call_of, directory_path, with_line_feed, file_path, words_of};
 
 use crate::NoMemory;
 use itoa::Buffer;
@@ -118,7 +118,7 @@ impl Call {
 
     // Appends the line of the call with its line feed.
     pub fn put_line(&self, text: &mut Vec<u8>) -> Result<(), NoMemory>
-        ensures { OnOk result (text.new.items ≡ text.old.items ++ ended (call_line self.now)) }
+        ensures { OnOk result (text.new.items ≡ text.old.items ++ with_line_feed (call_line self.now)) }
     {
         text.extend_from_slice(b"1@l")?;
         put_number(text, self.level)?;

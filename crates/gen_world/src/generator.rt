@@ -12,7 +12,7 @@ use std::marker::Model;
 pub const MAX_LINES: u32 = 100_000;
 
 // The world of each generated text, with the line `script`.
-const WORLD: &[u8] = b"world 1\n\
+const WORLD: &[u8] = b"world 2\n\
     levels l0 l1 l2 l3\n\
     categories c0 c1\n\
     bound all\n\

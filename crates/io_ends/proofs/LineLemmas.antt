@@ -4,27 +4,14 @@ use Rattle.std.specs.Prelude.{position}
 use Rattle.std.specs.List.{before_first, list_any, position_or_len}
 use Rattle.std.proofs.lemmas.Bool.{ltb-false}
 use Rattle.std.proofs.lemmas.Bool.Decides.{nat_tests}
-use Rattle.std.proofs.lemmas.List.{drop_more, get_or-take, length-drop, length-take, length-take-le, take_min, take_rest, take-append-drop, take-take}
+use Rattle.std.proofs.lemmas.List.{drop_more, take_all, get_or-take, length-drop, length-take, length-take-le, take_min, take_rest, take-append-drop, take-take}
 use Rattle.std.proofs.Math.Nat.{min_comm}
 use Rattle.std.proofs.lemmas.List.Sums.{passes_at_first, prefix_len-le-length}
+use Rattle.fs_path.proofs.SplitLemmas.{any_before_end}
 use Rattle.fs_path.specs.declared.words.TheConstants.{MAX_LINE}
 use Rattle.io_ends.specs.Lines.{first_line, has_line_feed, HoldsLine, HoldsPart}
 
 -- ---- the first place that passes a test
-
--- an item passes a test exactly where the first place that passes is within the list
-any_before_end : {X : Type 0} (p : X → Bool) (xs : List X) → list_any p xs ≡ nat_lt (position_or_len p xs) (length xs)
-any_before_end p [] = refl
-any_before_end p (x ∷ xs) = elim (p x) as (λ v. (v || list_any p xs) ≡ nat_lt (cond (not v) (1 + position_or_len p xs) 0) (suc (length xs))) [
-  | true ↦ first (length xs)
-  | false ↦ any_before_end p xs ∙ later (position_or_len p xs) (length xs)
-]
-  where
-    first : (n : ℕ) → true ≡ nat_lt 0 (suc n)
-    first n = grind (arith, nat_tests)
-
-    later : (k n : ℕ) → nat_lt k n ≡ nat_lt (1 + k) (suc n)
-    later k n = grind (arith, nat_tests)
 
 place_within : {X : Type 0} (p : X → Bool) (xs : List X) → position_or_len p xs ≤ length xs
 place_within p xs = prefix_len-le-length (λ x. not (p x)) xs
@@ -147,3 +134,13 @@ pub held_none : (text more : List ℕ) (room : ℕ) → HoldsPart (text ++ more)
 held_none text more room part line =
     let none = none_in_prefix (take room text) (take (room - length text) more) (sym (ap has_line_feed (take_on room text more)) ∙ part.no_line) in
     absurd (cc)
+
+-- the first line of a text with its line feed
+pub line_with_feed : (text : List ℕ) (n : ℕ) → n < length text → text ≡ take n text ++ 10 ∷ drop (n + 1) text → take (n + 1) text ≡ take n text ++ 10 ∷ []
+line_with_feed text n inside is =
+    let size : length (take n text) ≡ n = omega (arith, length-take n text, inside) in
+    let one : n + 1 - length (take n text) ≡ 1 = omega (arith, size) in
+    ap (λ (t : List ℕ). take (n + 1) t) is
+    ∙ take_on (n + 1) (take n text) (10 ∷ drop (n + 1) text)
+    ∙ ap (λ (t : List ℕ). t ++ take (n + 1 - length (take n text)) (10 ∷ drop (n + 1) text)) (take_all (n + 1) (take n text) (omega (arith, size)))
+    ∙ ap (λ k. take n text ++ take k (10 ∷ drop (n + 1) text)) one

@@ -11,7 +11,7 @@ use Rattle.fs_path.specs.declared.words.TheConstants.{MAX_LINE}
 use Rattle.io_ends.specs.Lines.{Advances, Answers, GivesNone, has_line_feed, InReads}
 use Rattle.io_ends.specs.LinesState.{LinesState}
 use Rattle.io_ends.specs.Seeking.{Looks, Seeks}
-use Rattle.io_ends.proofs.LineLemmas.{line_ends}
+use Rattle.io_ends.proofs.LineLemmas.{line_ends, line_with_feed}
 
 abbrev state : List ℕ → List ℕ → ℕ → ℕ → Bool → LinesState
 state line held room number more = record { line = line; held = held; room = room; number = number; more = more }
@@ -55,6 +55,17 @@ module _ (line held : List ℕ) (room number : ℕ) (more : Bool) (before : Line
         room_is = omega arith;
         more = refl;
       })
+
+  -- the line that was found, with its line feed
+  pub given_line : (n : ℕ) → found ≡ look.Line n → (n + 1 ≤ length buffer) × (length (drop (n + 1) buffer) ≤ room - (n + 1) + 1) × (n + 1 ≤ room) × (take (n + 1) buffer ≡ take (n + 1 - 1) buffer ++ 10 ∷ [])
+  given_line n is =
+      let looks : Looks (look.Line n) buffer room = subst (λ (l : Look). Looks l buffer room) is s.looks.0 in
+      let inside : n < length (take room buffer) = looks.1 in
+      let counted = length-take room buffer in
+      let after_size = length-drop (n + 1) buffer in
+      let most : length buffer ≤ room + 1 = s.few in
+      let same : n + 1 - 1 ≡ n = omega arith in
+      (omega arith, omega arith, omega arith, line_with_feed buffer n (omega arith) (line_ends buffer room n looks.0 looks.1).0 ∙ ap (λ k. take k buffer ++ 10 ∷ []) (sym same))
 
   none : GivesNone buffer room (state [] buffer room (number + 1) false)
   none = record { line = refl; held = refl; room_is = refl; more = refl }

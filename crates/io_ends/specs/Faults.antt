@@ -4,13 +4,13 @@ use Rattle.std.specs.declared.option.Option.{Option}
 use Rattle.std.specs.Io.KnownBytes.{Appends}
 
 -- the next count of faults, or the next number of a call, which stays at 2^64 - 1 once there
-abbrev pub counted : ℕ → ℕ
-counted n = min (n + 1) (2 ^ 64 - 1)
+abbrev pub next_count : ℕ → ℕ
+next_count n = min (n + 1) (2 ^ 64 - 1)
 
 -- a call that failed was counted once, and one that succeeded was not
 pub record CountsFault {T E : Type 0} (before now : ℕ) (result : Result T E) : Type 0 where
   pub still : OnOk result (now ≡ before)
-  pub once : OnErr result (now ≡ counted before)
+  pub once : OnErr result (now ≡ next_count before)
 
 -- a proper prefix of the piece was appended
 pub record AppendsPart (old new : Option (List ℕ)) (piece : List ℕ) : Type 0 where

@@ -2,7 +2,7 @@
 use Rattle.std.specs.Prelude.{◌≡◌, ℕ, ◌+◌, ◌≤◌, false, List, ◌++◌, length, nat_lt, take, IfOk, Result, Ok, Err}
 use Rattle.std.specs.declared.option.Option.{Option}
 use Rattle.std.specs.Io.KnownBytes.{Consumes, IsAtEnd}
-use Rattle.io_ends.specs.Faults.{counted}
+use Rattle.io_ends.specs.Faults.{next_count}
 use Rattle.io_ends.specs.declared.whole.ReadError.{ReadError}
 use Rattle.io_ends.specs.declared.whole.ReadError.TheVariants.{Failed, NoMemory}
 use Rattle.io_ends.specs.declared.whole.Whole.{Whole}
@@ -10,7 +10,7 @@ use Rattle.io_ends.specs.declared.whole.Whole.{Whole}
 -- a read that failed was counted once, and nothing else was counted
 abbrev pub CountsRead : {T : Type 0} → Result T ReadError → ℕ → ℕ → Type 0
 CountsRead (Ok answer) before now = now ≡ before
-CountsRead (Err Failed) before now = now ≡ counted before
+CountsRead (Err Failed) before now = now ≡ next_count before
 CountsRead (Err NoMemory) before now = now ≡ before
 
 -- the result has the first `limit` of the bytes that were read and says whether there were more of them; where there were not, the source was read to its end

@@ -3,7 +3,7 @@ ghost use Rattle.std.specs.Prelude.{◌≡◌, ◌<◌, ◌≤◌, [], Ok, lengt
 ghost use Rattle.std.specs.Io.{ReadsAtMost, WritesAtMost};
 ghost use Rattle.std.specs.Io.KnownBytes.{ReadConsumes, WriteAppends};
 ghost use Rattle.io_ends.specs.Ends.{SinkView, SourceView};
-ghost use Rattle.io_ends.specs.Faults.{CountsFault, counted};
+ghost use Rattle.io_ends.specs.Faults.{CountsFault, next_count};
 
 /// A read or a write failed. The source or the sink has counted it.
 #[derive(Clone, Copy, Debug, PartialEq, Eq)]
@@ -38,7 +38,7 @@ pub trait Sink {
 
 /// Counts a fault, up to `u64::MAX`.
 pub fn count_fault(faults: &mut u64) -> Failed
-    ensures { faults.new ≡ counted faults.old }
+    ensures { faults.new ≡ next_count faults.old }
 {
     *faults = faults.saturating_add(1);
     Failed

@@ -3,7 +3,7 @@
 ghost use Rattle.std.specs.Prelude.{◌≡◌, ◌<◌, ◌≤◌, [], None, Ok, length, is_ok, if◌then◌else◌, IfOk};
 ghost use Rattle.std.specs.Io.{ReadsAtMost, WritesAtMost};
 ghost use Rattle.std.specs.Io.KnownBytes.{ReadConsumes, WriteAppends};
-ghost use Rattle.io_ends.specs.Faults.{CountsFault, counted};
+ghost use Rattle.io_ends.specs.Faults.{CountsFault, next_count};
 
 use crate::ends::count_fault;
 use crate::{Failed, Sink, Source};

@@ -1,5 +1,5 @@
 // Lines of a source, read one after another.
-ghost use Rattle.std.specs.Prelude.{◌≡◌, ◌==◌, ◌+◌, ◌^◌, ◌≤◌, [], length, take, true, false, position, IfOk};
+ghost use Rattle.std.specs.Prelude.{◌≡◌, ◌==◌, ◌+◌, ◌^◌, ◌<◌, ◌≤◌, [], ◌∷◌, ◌++◌, length, take, true, false, position, IfOk};
 ghost use Rattle.io_ends.specs.Faults.{CountsFault};
 ghost use Rattle.io_ends.specs.Lines.{Advances, HoldsLine, has_line_feed, first_line};
 ghost use Rattle.io_ends.specs.Seeking.{Looks, Seeks};
@@ -127,14 +127,15 @@ impl Drop for Lines {
 }
 
 impl Model for Lines {
-    ghost use Rattle.std.specs.Prelude.{◌≡◌, ◌+◌, ◌-◌, ◌^◌, ◌≤◌, true, drop, length, take};
+    ghost use Rattle.std.specs.Prelude.{◌≡◌, ◌+◌, ◌-◌, ◌^◌, ◌<◌, ◌≤◌, true, [], ◌∷◌, ◌++◌, drop, length, take};
     ghost use Rattle.io_ends.specs.LinesState.{LinesState};
 
     ghost Value = { LinesState };
 
     ghost view = { λ a. record { line = take (a.given - 1) a.buffer; held = drop a.given a.buffer; room = a.room; number = a.number; more = a.more } };
 
-    ghost invariant = { λ a. (a.given ≤ length a.buffer) × (length (drop a.given a.buffer) ≤ a.room + 1) × (a.room ≤ 2 ^ 24) × (a.more ≡ true → a.number + a.room ≤ 2 ^ 24) };
+    ghost invariant = { λ a. (a.given ≤ length a.buffer) × (length (drop a.given a.buffer) ≤ a.room + 1) × (a.room ≤ 2 ^ 24) × (a.more ≡ true → a.number + a.room ≤ 2 ^ 24)
+        × (a.more ≡ true → 0 < a.number → take a.given a.buffer ≡ take (a.given - 1) a.buffer ++ 10 ∷ []) };
 }
 
 impl Lines {
@@ -158,6 +159,13 @@ impl Lines {
         ensures { result.now ≡ self.now.line }
     {
         &self.buffer.held()[..self.given.saturating_sub(1)]
+    }
+
+    /// The last line with its line feed. It is empty where the last answer was no line.
+    pub fn ended_line(&self) -> &[u8]
+        ensures { self.now.more ≡ true → 0 < self.now.number → result.now ≡ self.now.line ++ 10 ∷ [] }
+    {
+        &self.buffer.held()[..self.given]
     }
 
     /// The number of the line that was asked for last, counted from 1. It is 0 before the first.

@@ -16,7 +16,7 @@ use Rattle.kern_model.specs.declared.checks.Place.TheVariants.{First, Handle}
 use Rattle.kern_model.specs.declared.numbers.Oid.{Oid}
 use Rattle.kern_model.specs.declared.records.Rec.{Rec}
 use Rattle.kern_model.specs.AttrRows.{on_open_object}
-use Rattle.kern_model.specs.Descriptors.{Opened, opened}
+use Rattle.kern_model.specs.Descriptors.{Opened, open_description}
 use Rattle.kern_model.specs.FileRows.{on_descriptor, or_not_open}
 use Rattle.kern_model.specs.Keys.{Spot}
 use Rattle.kern_model.specs.Kinds.{is_dir}
@@ -118,7 +118,7 @@ module _ (Known : Check → Type 0) (Not : Bool → Type 0) (CheckHolds : Check 
 
     -- a row after a descriptor
     pub along_descriptor : (fd : ℕ) (k : Opened → Row) → ((f : Opened) → IsOpen s p fd f → Along (k f)) → Along (on_descriptor s p fd k)
-    along_descriptor fd k h = along_open (opened s p fd) k (λ f e. h f (is_open s p fd f e))
+    along_descriptor fd k h = along_open (open_description s p fd) k (λ f e. h f (is_open s p fd f e))
 
     pub along_open_object : (fd : ℕ) (k : Oid → Place → Row) → ((id : Oid) (place : Place) → Reaches s p id → Along (k id place))
         → Along (on_open_object s p fd k)

@@ -9,7 +9,7 @@ use Rattle.kern_model.specs.declared.numbers.Pid.{Pid}
 use Rattle.kern_model.specs.declared.world.ScriptItem.{ScriptItem}
 use Rattle.kern_model.specs.declared.world.WorldProc.{WorldProc}
 use Rattle.kern_model.specs.Arguments.{is_call, is_script}
-use Rattle.kern_model.specs.Boot.{boot, boot_process, boot_recs, objects_loaded, started}
+use Rattle.kern_model.specs.Boot.{boot, boot_process, boot_recs, objects_loaded, boot_recs_from}
 use Rattle.kern_model.specs.Names.{name_of}
 use Rattle.kern_model.specs.Run.{CallRecord, run}
 use Rattle.kern_model.specs.State.{State, Process}
@@ -57,7 +57,7 @@ run_below (i ∷ is) s args valid =
     (run_below is next first.later_args (valid_step s i.who i.call first.args first.names valid)))
 
 -- the records of a start
-start_below : (top : Label) (ws : List WorldProc) (s : State) → AllByRecursion (IsWorldProc top) ws → AllBelow top (started s ws)
+start_below : (top : Label) (ws : List WorldProc) (s : State) → AllByRecursion (IsWorldProc top) ws → AllBelow top (boot_recs_from s ws)
 start_below top [] s all = tt
 start_below top (w ∷ ws) s all = ((all.0.below, (all.0.below, tt)), start_below top ws (boot_process s w) all.1)
 

@@ -17,7 +17,7 @@ use Rattle.kern_model.specs.declared.records.Rec.{Rec}
 use Rattle.kern_model.specs.Row.{Row, Need, Soft, Refuse, Fail, Commit, End, Stopped, Refused, Done, judge, verdict_of, is_denied, exercises_after, exercise_with}
 use Rattle.kern_model.specs.Rules.{cap_of}
 use Rattle.kern_model.specs.State.{State, Process, object_at, stub_object}
-use Rattle.kern_model.specs.Step.{subject, settled, own_of}
+use Rattle.kern_model.specs.Step.{subject, step_result, own_of}
 use Rattle.kern_model.specs.Valid.{IsThere, IsValid}
 use Rattle.kern_model.proofs.MapLemmas.{get_or-found, get_or-absent}
 use Rattle.kern_model.specs.Records.{label_of, label_if}
@@ -94,7 +94,7 @@ module _ (top : Label) (who : Pid) (p : Process) (number : dominates top who.lab
   own_below name (Done cs answer (Some r)) h = (h, tt)
 
   -- the records that a row leaves
-  pub row_leaves : (s : State) (name : CallName) (r : Row) → RowBelow top r → AllBelow top (settled s who p name (judge (subject who p) [] r)).recs
+  pub row_leaves : (s : State) (name : CallName) (r : Row) → RowBelow top r → AllBelow top (step_result s who p name (judge (subject who p) [] r)).recs
   row_leaves s name r h =
       all-append (HasLabelsBelow top) (judge (subject who p) [] r).used _ (used_below [] r h tt)
       (own_below name (judge (subject who p) [] r).end (end_below [] r h))

@@ -2,7 +2,7 @@
 use Rattle.std.specs.Prelude.{◌≡◌, ◌⊎◌, ℕ, ◌+◌, ◌<◌, ◌≤◌, ◌&&◌, ◌||◌, ◌++◌, length, Bool, true, false, not, List, [], ◌∷◌, None, Some, cond}
 use Rattle.std.specs.FinMap as map
 use Rattle.cap_bits.specs.CapSet.{is_within}
-use Rattle.cap_bits.specs.State.{no_flags}
+use Rattle.cap_bits.specs.FileCaps.{no_file_caps}
 use Rattle.cap_bits.specs.declared.state.CapState.{CapState}
 use Rattle.fs_path.specs.Name.{Name, is_name}
 use Rattle.lab_lattice.specs.Label.{Label, dominates}
@@ -19,14 +19,14 @@ use Rattle.kern_model.specs.declared.objects.Kind.TheVariants as kind
 use Rattle.kern_model.specs.declared.objects.Object.{Object}
 use Rattle.kern_model.specs.declared.records.Rec.{Rec}
 use Rattle.kern_model.specs.Create.{creation, has_object_number}
-use Rattle.kern_model.specs.Descriptors.{Opened, closing, open_count, with_descriptor}
-use Rattle.kern_model.specs.FileRows.{open_object, opening, offset_change, with_bytes, pipe_creation, content_change}
+use Rattle.kern_model.specs.Descriptors.{Opened, changes_of_close, open_count, with_descriptor}
+use Rattle.kern_model.specs.FileRows.{open_object, description_creation, offset_change, with_bytes, pipe_creation, content_change}
 use Rattle.kern_model.specs.Keys.{same_oid}
 use Rattle.kern_model.specs.Entries.{is_empty, is_removed, link_count}
 use Rattle.kern_model.specs.Kinds.{is_dir as dir_kind, is_file, is_fifo, is_mode, is_permission, is_stream}
 use Rattle.kern_model.specs.ProcessRows.{child_of, ending_of}
 use Rattle.kern_model.specs.Rules.{same_label, is_above_holders, mac_downgrade, mac_read, mac_subject, mac_upgrade, mac_write, mac_write_process}
-use Rattle.kern_model.specs.State.{State, Process, Change, SetObject, SetProcess, SetEntry, DropEntry, DrawProcess, drawn, next_object, next_process, object_at, look, root}
+use Rattle.kern_model.specs.State.{State, Process, Change, SetObject, SetProcess, SetEntry, DropEntry, DrawProcess, last_drawn, next_object, next_process, object_at, look, root}
 use Rattle.kern_model.specs.Step.{subject}
 use Rattle.kern_model.specs.Valid.{IsDir}
 use Rattle.iso_laws.proofs.Rows.{Passes}
@@ -50,7 +50,7 @@ pub record MayCreate (excluded : Rec → Bool) (s : State) (who : Pid) (p : Proc
 -- a descriptor and a number of a description are left
 pub record HasRoom (s : State) (p : Process) : Type 0 where
   pub descriptor : open_count p + 1 ≤ MAX_DESCRIPTORS
-  pub number : drawn s.description_numbers p.label + 1 ≤ MAX_DESCRIPTIONS
+  pub number : last_drawn s.description_numbers p.label + 1 ≤ MAX_DESCRIPTIONS
 
 -- an object may be opened: it is no directory, flags ask to read or to write it, and the checks on labels passed that they ask for
 pub record MayOpen (excluded : Rec → Bool) (s : State) (who : Pid) (p : Process) (id : Oid) (flags : OpenFlags) (place : Place) : Type 0 where
@@ -110,29 +110,29 @@ pub record EffectCases (excluded : Rec → Bool) (s : State) (who : Pid) (p : Pr
       → length bytes ≤ MAX_FILE_BYTES
       → P (content_change f.description.object (open_object s f) bytes attr ∷ offset_change f offset ∷ [])
   -- an object is opened
-  pub open_existing : (id : Oid) (flags : OpenFlags) (place : Place) → MayOpen excluded s who p id flags place → P (opening s who p id flags)
+  pub open_existing : (id : Oid) (flags : OpenFlags) (place : Place) → MayOpen excluded s who p id flags place → P (description_creation s who p id flags)
   -- a file that may be written loses its bytes, gets other attributes, and is opened
   pub open_emptied : (id : Oid) (flags : OpenFlags) (place : Place) (attr : Attr) → (may : MayOpen excluded s who p id flags place) → flags.w ≡ true
       → may.target.object.kind ≡ kind.File → is_mode attr.mode ≡ true
-      → P (content_change id (object_at s id) [] attr ∷ opening s who p id flags)
+      → P (content_change id (object_at s id) [] attr ∷ description_creation s who p id flags)
   -- a file is made and opened
   pub open_made : (dir : Oid) (name : Name) (o : Object) (place : Place) (flags : OpenFlags) → MayCreate excluded s who p ArgsValid dir name o place → o.kind ≡ kind.File
-      → HasRoom s p → P (creation s p.label dir name o ++ opening s who p (next_object s p.label) flags)
+      → HasRoom s p → P (creation s p.label dir name o ++ description_creation s who p (next_object s p.label) flags)
   -- a pipe is made and opened at both ends
-  pub pipe : has_object_number s p.label ≡ true → open_count p + 2 ≤ MAX_DESCRIPTORS → drawn s.description_numbers p.label + 2 ≤ MAX_DESCRIPTIONS → P (pipe_creation s who p)
+  pub pipe : has_object_number s p.label ≡ true → open_count p + 2 ≤ MAX_DESCRIPTORS → last_drawn s.description_numbers p.label + 2 ≤ MAX_DESCRIPTIONS → P (pipe_creation s who p)
   -- a descriptor of the caller closes
-  pub close : (fd : ℕ) → P (SetProcess who (without_fd p fd) ∷ closing s (has_fd who fd))
+  pub close : (fd : ℕ) → P (SetProcess who (without_fd p fd) ∷ changes_of_close s (has_fd who fd))
   -- an object whose mac_write passed gets other attributes
   pub attributes : (id : Oid) (o : Object) (attr : Attr) (place : Place) → map.get s.objects id ≡ Some o → Passes excluded (subject who p) (mac_write s p id place)
-      → (ArgsValid → is_mode attr.mode ≡ true) → (is_file o.kind ≡ false → attr.caps ≡ no_flags)
+      → (ArgsValid → is_mode attr.mode ≡ true) → (is_file o.kind ≡ false → attr.caps ≡ no_file_caps)
       → P (SetObject id (record o { attr = attr }) ∷ [])
   -- an object whose mac_write passed gets another label, which a check allowed
   pub relabel : (id : Oid) (o : Object) (new : Label) (place : Place) → map.get s.objects id ≡ Some o → Passes excluded (subject who p) (mac_write s p id place)
       → MayRelabel excluded s who p id o new place → (ArgsValid → dominates s.top new ≡ true)
       → P (SetObject id (record o { label = new }) ∷ [])
   -- the caller forks
-  pub fork : drawn s.process_numbers p.label < MAX_PROCS
-      → P (DrawProcess p.label (drawn s.process_numbers p.label + 1) ∷ SetProcess (next_process s p.label) (child_of who p) ∷ [])
+  pub fork : last_drawn s.process_numbers p.label < MAX_PROCS
+      → P (DrawProcess p.label (last_drawn s.process_numbers p.label + 1) ∷ SetProcess (next_process s p.label) (child_of who p) ∷ [])
   -- the caller has awaited the first of its children that ended
   pub await : (e : Pid × Ending) (es : List (Pid × Ending)) → p.ended ≡ e ∷ es → P (SetProcess who (record p { ended = es }) ∷ [])
   -- a process ends: the caller, or one whose mac_write passed

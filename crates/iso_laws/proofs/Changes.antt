@@ -13,7 +13,7 @@ use Rattle.kern_model.specs.declared.objects.Object.{Object}
 use Rattle.kern_model.specs.Keys.{oid_cmp, did_cmp, pid_cmp, spot_cmp}
 use Rattle.kern_model.proofs.KeyLaws.{oid_cmp_total, oid_cmp_exact, pid_cmp_total, pid_cmp_exact, did_cmp_total, did_cmp_exact}
 use Rattle.kern_model.specs.Kinds.{is_stream}
-use Rattle.kern_model.specs.State.{State, Process, Description, SetObject, SetProcess, SetDescription, DropDescription, changed}
+use Rattle.kern_model.specs.State.{State, Process, Description, SetObject, SetProcess, SetDescription, DropDescription, apply_change}
 use Rattle.kern_model.specs.Isolation.{low, Kept}
 use Rattle.kern_model.proofs.MapLemmas.{each-insert, each-remove}
 
@@ -49,7 +49,7 @@ module _ (l : Label) (s : State) (kept : Kept l s) where
     streams = kept.streams;
   }
 
-  pub kept_process : (who : Pid) (p : Process) → KeptProcess l who p → Kept l (changed s (SetProcess who p))
+  pub kept_process : (who : Pid) (p : Process) → KeptProcess l who p → Kept l (apply_change s (SetProcess who p))
   kept_process who p new = kept_procs (map.insert s.procs who p) (each-insert pid_cmp_total pid_cmp_exact (KeptProcess l) s.procs kept_of who p new)
 
   -- a state stays kept with other objects, if their labels and the descriptions of pipes and FIFOs are on their side, whatever its entries and drawn numbers
@@ -75,7 +75,7 @@ module _ (l : Label) (s : State) (kept : Kept l s) where
 
   -- a state stays kept where an object is set, if the descriptions of a pipe or FIFO are on its side
   pub kept_object : (id : Oid) (o : Object) → low l id.label ≡ low l o.label
-      → ((did : Did) (d : Description) → map.get s.descriptions did ≡ Some d → d.object ≡ id → is_stream o.kind ≡ true → low l did.label ≡ low l d.object.label) → Kept l (changed s (SetObject id o))
+      → ((did : Did) (d : Description) → map.get s.descriptions did ≡ Some d → d.object ≡ id → is_stream o.kind ≡ true → low l did.label ≡ low l d.object.label) → Kept l (apply_change s (SetObject id o))
   kept_object id o side streams =
       kept_objects (map.insert s.objects id o) s.entries s.object_numbers s.process_numbers s.description_numbers
       (each-insert oid_cmp_total oid_cmp_exact (λ (q : Oid) (x : Object). low l q.label ≡ low l x.label) s.objects kept.objects id o side)
@@ -108,10 +108,10 @@ module _ (l : Label) (s : State) (kept : Kept l s) where
 
   -- a state stays kept where a description is set
   pub kept_description : (did : Did) (d : Description) → (low l did.label ≡ true → low l d.object.label ≡ true)
-      → ((o : Object) → map.get s.objects d.object ≡ Some o → is_stream o.kind ≡ true → low l did.label ≡ low l d.object.label) → Kept l (changed s (SetDescription did d))
+      → ((o : Object) → map.get s.objects d.object ≡ Some o → is_stream o.kind ≡ true → low l did.label ≡ low l d.object.label) → Kept l (apply_change s (SetDescription did d))
   kept_description did d side stream =
       kept_descriptions (map.insert s.descriptions did d) (each-insert did_cmp_total did_cmp_exact IsKeptDescription s.descriptions kept_each did d (side, stream))
 
   -- and where one goes
-  pub kept_dropped : (did : Did) → Kept l (changed s (DropDescription did))
+  pub kept_dropped : (did : Did) → Kept l (apply_change s (DropDescription did))
   kept_dropped did = kept_descriptions (map.remove s.descriptions did) (each-remove did_cmp_total did_cmp_exact IsKeptDescription s.descriptions kept_each did)

@@ -14,7 +14,7 @@ use Rattle.kern_model.specs.declared.numbers.Pid.{Pid}
 use Rattle.kern_model.specs.Drawing.{NeverFalls, StayDrawn, IsDrawnBetween, NumbersGoOn, NothingComesBack}
 use Rattle.kern_model.specs.Keys.{Spot}
 use Rattle.kern_model.proofs.KeyLaws.{oid_cmp_total, oid_cmp_exact, pid_cmp_total, pid_cmp_exact, did_cmp_total, did_cmp_exact, spot_cmp_total, spot_cmp_exact}
-use Rattle.kern_model.specs.State.{State, Process, Description, Change, SetObject, SetEntry, DropEntry, SetProcess, DropProcess, SetDescription, DropDescription, DrawObject, DrawProcess, DrawDescription, changed, changed_by, drawn, root}
+use Rattle.kern_model.specs.State.{State, Process, Description, Change, SetObject, SetEntry, DropEntry, SetProcess, DropProcess, SetDescription, DropDescription, DrawObject, DrawProcess, DrawDescription, apply_change, apply_changes, last_drawn, root}
 use Rattle.kern_model.specs.Valid.{IsThere, IsValid}
 use Rattle.kern_model.proofs.MapLemmas.{each-insert, each-remove, get-insert_same, get_or-found, never_some}
 use Rattle.kern_model.proofs.TableLemmas.{each_set_at}
@@ -60,8 +60,8 @@ leads_where There s valid h =
     }
 
 -- drawing a number that is at least the last one lets no count fall
-pub falls_nowhere : (old m : FinMap label_cmp ℕ) (l : Label) (n : ℕ) → NeverFalls old m → drawn m l ≤ n → NeverFalls old (map.insert m l n)
-falls_nowhere old m l n stay up = each_set_at label_cmp_total label_cmp_exact (λ q x. drawn old q ≤ x) 0 m l n (omega (arith, stay l)) stay
+pub falls_nowhere : (old m : FinMap label_cmp ℕ) (l : Label) (n : ℕ) → NeverFalls old m → last_drawn m l ≤ n → NeverFalls old (map.insert m l n)
+falls_nowhere old m l n stay up = each_set_at label_cmp_total label_cmp_exact (λ q x. last_drawn old q ≤ x) 0 m l n (omega (arith, stay l)) stay
 
 -- ---- changes numbered in order, from a state on, with a set of objects that are there and a set of processes that are born
 module _ (There : Oid → Type 0) (Born : Pid → Type 0) (s : State) where
@@ -79,19 +79,19 @@ module _ (There : Oid → Type 0) (Born : Pid → Type 0) (s : State) where
   IsNumbered t (SetEntry spot id) = IsPresent t id
   IsNumbered t (SetProcess who p) = Lives t who × IsPresent t p.cwd
   IsNumbered t (SetDescription did d) = (IsThere s.descriptions did ⊎ IsDrawnBetween s.description_numbers t.description_numbers did.label did.n) × IsPresent t d.object
-  IsNumbered t (DrawObject l n) = drawn t.object_numbers l ≤ n
-  IsNumbered t (DrawProcess l n) = drawn t.process_numbers l ≤ n
-  IsNumbered t (DrawDescription l n) = drawn t.description_numbers l ≤ n
+  IsNumbered t (DrawObject l n) = last_drawn t.object_numbers l ≤ n
+  IsNumbered t (DrawProcess l n) = last_drawn t.process_numbers l ≤ n
+  IsNumbered t (DrawDescription l n) = last_drawn t.description_numbers l ≤ n
   IsNumbered t _ = ⊤
 
   -- each of these changes is numbered in order in the state after those before it
   abbrev pub AreNumbered : State → List Change → Type 0
   AreNumbered t [] = ⊤
-  AreNumbered t (c ∷ cs) = IsNumbered t c × AreNumbered (changed t c) cs
+  AreNumbered t (c ∷ cs) = IsNumbered t c × AreNumbered (apply_change t c) cs
 
-  pub numbered-append : (cs ds : List Change) (t : State) → AreNumbered t cs → AreNumbered (changed_by t cs) ds → AreNumbered t (cs ++ ds)
-  numbered-append [] ds t h g = g
-  numbered-append (c ∷ cs) ds t h g = (h.0, numbered-append cs ds (changed t c) h.1 g)
+  pub entries_from-append : (cs ds : List Change) (t : State) → AreNumbered t cs → AreNumbered (apply_changes t cs) ds → AreNumbered t (cs ++ ds)
+  entries_from-append [] ds t h g = g
+  entries_from-append (c ∷ cs) ds t h g = (h.0, entries_from-append cs ds (apply_change t c) h.1 g)
 
   -- a change that is numbered in order in each later state
   abbrev pub IsNumberedAnywhere : Change → Type 0
@@ -99,10 +99,10 @@ module _ (There : Oid → Type 0) (Born : Pid → Type 0) (s : State) where
 
   pub numbered_anywhere : (cs : List Change) (t : State) → AllByRecursion IsNumberedAnywhere cs → AreNumbered t cs
   numbered_anywhere [] t h = tt
-  numbered_anywhere (c ∷ cs) t h = (h.0 t, numbered_anywhere cs (changed t c) h.1)
+  numbered_anywhere (c ∷ cs) t h = (h.0 t, numbered_anywhere cs (apply_change t c) h.1)
 
   -- ---- what was drawn stays drawn
-  stay_drawn_changed : (t : State) (c : Change) → IsNumbered t c → StayDrawn s t → StayDrawn s (changed t c)
+  stay_drawn_changed : (t : State) (c : Change) → IsNumbered t c → StayDrawn s t → StayDrawn s (apply_change t c)
   stay_drawn_changed t (DrawObject l n) h stay =
       record { objects = falls_nowhere s.object_numbers t.object_numbers l n stay.objects h; procs = stay.procs; descriptions = stay.descriptions }
   stay_drawn_changed t (DrawProcess l n) h stay =
@@ -111,20 +111,20 @@ module _ (There : Oid → Type 0) (Born : Pid → Type 0) (s : State) where
       record { objects = stay.objects; procs = stay.procs; descriptions = falls_nowhere s.description_numbers t.description_numbers l n stay.descriptions h }
   stay_drawn_changed t c h stay = record { objects = stay.objects; procs = stay.procs; descriptions = stay.descriptions }
 
-  pub stay_drawn_all : (cs : List Change) (t : State) → AreNumbered t cs → StayDrawn s t → StayDrawn s (changed_by t cs)
+  pub stay_drawn_all : (cs : List Change) (t : State) → AreNumbered t cs → StayDrawn s t → StayDrawn s (apply_changes t cs)
   stay_drawn_all [] t h stay = stay
-  stay_drawn_all (c ∷ cs) t h stay = stay_drawn_all cs (changed t c) h.1 (stay_drawn_changed t c h.0 stay)
+  stay_drawn_all (c ∷ cs) t h stay = stay_drawn_all cs (apply_change t c) h.1 (stay_drawn_changed t c h.0 stay)
 
 pub stay_drawn_itself : (s : State) → StayDrawn s s
 stay_drawn_itself s = record { objects = λ l. omega arith; procs = λ l. omega arith; descriptions = λ l. omega arith }
 
 -- a number above the last one of an earlier table was drawn since
-pub drawn_since : (old m : FinMap label_cmp ℕ) (l : Label) (n last : ℕ) → drawn old l < n → n ≤ last → IsDrawnBetween old (map.insert m l last) l n
+pub drawn_since : (old m : FinMap label_cmp ℕ) (l : Label) (n last : ℕ) → last_drawn old l < n → n ≤ last → IsDrawnBetween old (map.insert m l last) l n
 drawn_since old m l n last above few =
-    let now : drawn (map.insert m l last) l ≡ last = get_or-found _ l 0 last (get-insert_same label_cmp_total m l last) in (above, omega (arith, now))
+    let now : last_drawn (map.insert m l last) l ≡ last = get_or-found _ l 0 last (get-insert_same label_cmp_total m l last) in (above, omega (arith, now))
 
 -- ---- what is there
-drawn_still : (old m n : FinMap label_cmp ℕ) (l : Label) (k : ℕ) → drawn m l ≤ drawn n l → IsDrawnBetween old m l k → IsDrawnBetween old n l k
+drawn_still : (old m n : FinMap label_cmp ℕ) (l : Label) (k : ℕ) → last_drawn m l ≤ last_drawn n l → IsDrawnBetween old m l k → IsDrawnBetween old n l k
 drawn_still old m n l k up h = (h.0, omega (arith, h.1))
 
 -- by the label and the count of each key: one that is there and was not has a count that was drawn in between
@@ -168,7 +168,7 @@ module _ {K X : Type 0} {R : K → K → Ordering} (total : IsTotalOrder R) (exa
       (λ was. drawn_still before between after (label_of k) (count_of k) (up' (label_of k)) (first k none was))
 
   -- a key that is not there, and whose count was drawn, is not there later
-  pub none_back : (old new : FinMap R X) (before after : FinMap label_cmp ℕ) → AreNew old before new after → (k : K) → count_of k ≤ drawn before (label_of k)
+  pub none_back : (old new : FinMap R X) (before after : FinMap label_cmp ℕ) → AreNew old before new after → (k : K) → count_of k ≤ last_drawn before (label_of k)
       → map.get old k ≡ None → map.get new k ≡ None
   none_back old new before after fresh k few none =
       elim (map.get new k) as (λ o. map.get new k ≡ o → o ≡ None) [
@@ -186,7 +186,7 @@ module _ (There : Oid → Type 0) (Born : Pid → Type 0) (s : State) where
   was_or_born t who (inl was) = inl was
   was_or_born t who (inr born) = inr born.1
 
-  born_changed : (t : State) (c : Change) → IsNumbered There Born s t c → AreBorn t → AreBorn (changed t c)
+  born_changed : (t : State) (c : Change) → IsNumbered There Born s t c → AreBorn t → AreBorn (apply_change t c)
   born_changed t (SetProcess who p) h born q there =
       each-insert pid_cmp_total pid_cmp_exact (λ (k : Pid) (x : Process). IsThere s.procs k ⊎ Born k) t.procs
       (λ k x e. born k (record { value = x; is = e })) who p (was_or_born t who h.0) q there.value there.is
@@ -195,9 +195,9 @@ module _ (There : Oid → Type 0) (Born : Pid → Type 0) (s : State) where
       (λ k x e. born k (record { value = x; is = e })) who q there.value there.is
   born_changed t c h born q there = born q there
 
-  pub born_all : (cs : List Change) (t : State) → AreNumbered There Born s t cs → AreBorn t → AreBorn (changed_by t cs)
+  pub born_all : (cs : List Change) (t : State) → AreNumbered There Born s t cs → AreBorn t → AreBorn (apply_changes t cs)
   born_all [] t h born = born
-  born_all (c ∷ cs) t h born = born_all cs (changed t c) h.1 (born_changed t c h.0 born)
+  born_all (c ∷ cs) t h born = born_all cs (apply_change t c) h.1 (born_changed t c h.0 born)
 
 -- ---- numbers go on over changes numbered in order
 -- from a state to a later one: numbers go on, objects stay, and what leads to an object leads to one that is there
@@ -211,7 +211,7 @@ module _ (Born : Pid → Type 0) (s : State) where
   InOrder t c = IsNumbered (IsThere s.objects) Born s t c
 
   -- drawing a number that is at least the last one lets no count of the table fall
-  never_falls_drawn : (m : FinMap label_cmp ℕ) (l : Label) (n : ℕ) → drawn m l ≤ n → NeverFalls m (map.insert m l n)
+  never_falls_drawn : (m : FinMap label_cmp ℕ) (l : Label) (n : ℕ) → last_drawn m l ≤ n → NeverFalls m (map.insert m l n)
   never_falls_drawn m l n h = falls_nowhere m m l n (λ q. omega arith) h
 
   was_or_drawn : (t : State) (who : Pid) → Lives (IsThere s.objects) Born s t who
@@ -223,7 +223,7 @@ module _ (Born : Pid → Type 0) (s : State) where
   abbrev ObjectsGoOn : State → Type 0
   ObjectsGoOn t = AreNew oid_cmp_total oid_cmp_exact (λ (q : Oid). q.label) (λ (q : Oid). q.n) s.objects s.object_numbers t.objects t.object_numbers
 
-  objects_go_on : (t : State) (c : Change) → InOrder t c → ObjectsGoOn t → ObjectsGoOn (changed t c)
+  objects_go_on : (t : State) (c : Change) → InOrder t c → ObjectsGoOn t → ObjectsGoOn (apply_change t c)
   objects_go_on t (SetObject id o) h on = new-insert oid_cmp_total oid_cmp_exact _ _ s.objects t.objects s.object_numbers t.object_numbers id o h on
   objects_go_on t (DrawObject l n) h on =
       new-drawn oid_cmp_total oid_cmp_exact _ _ s.objects t.objects s.object_numbers t.object_numbers _ (never_falls_drawn t.object_numbers l n h) on
@@ -232,7 +232,7 @@ module _ (Born : Pid → Type 0) (s : State) where
   abbrev ProcessesGoOn : State → Type 0
   ProcessesGoOn t = AreNew pid_cmp_total pid_cmp_exact (λ (q : Pid). q.label) (λ (q : Pid). q.n) s.procs s.process_numbers t.procs t.process_numbers
 
-  processes_go_on : (t : State) (c : Change) → InOrder t c → ProcessesGoOn t → ProcessesGoOn (changed t c)
+  processes_go_on : (t : State) (c : Change) → InOrder t c → ProcessesGoOn t → ProcessesGoOn (apply_change t c)
   processes_go_on t (SetProcess who p) h on =
       new-insert pid_cmp_total pid_cmp_exact _ _ s.procs t.procs s.process_numbers t.process_numbers who p (was_or_drawn t who h.0) on
   processes_go_on t (DropProcess who) h on = new-remove pid_cmp_total pid_cmp_exact _ _ s.procs t.procs s.process_numbers t.process_numbers who on
@@ -244,7 +244,7 @@ module _ (Born : Pid → Type 0) (s : State) where
   DescriptionsGoOn t =
       AreNew did_cmp_total did_cmp_exact (λ (q : Did). q.label) (λ (q : Did). q.n) s.descriptions s.description_numbers t.descriptions t.description_numbers
 
-  descriptions_go_on : (t : State) (c : Change) → InOrder t c → DescriptionsGoOn t → DescriptionsGoOn (changed t c)
+  descriptions_go_on : (t : State) (c : Change) → InOrder t c → DescriptionsGoOn t → DescriptionsGoOn (apply_change t c)
   descriptions_go_on t (SetDescription did d) h on =
       new-insert did_cmp_total did_cmp_exact _ _ s.descriptions t.descriptions s.description_numbers t.description_numbers did d h.0 on
   descriptions_go_on t (DropDescription did) h on =
@@ -254,7 +254,7 @@ module _ (Born : Pid → Type 0) (s : State) where
       (never_falls_drawn t.description_numbers l n h) on
   descriptions_go_on t c h on = on
 
-  go_on_changed : (t : State) (c : Change) → InOrder t c → NumbersGoOn s t → NumbersGoOn s (changed t c)
+  go_on_changed : (t : State) (c : Change) → InOrder t c → NumbersGoOn s t → NumbersGoOn s (apply_change t c)
   go_on_changed t c h on = record {
     stay_drawn = stay_drawn_changed (IsThere s.objects) Born s t c h on.stay_drawn;
     objects = objects_go_on t c h on.objects;
@@ -268,24 +268,24 @@ module _ (Born : Pid → Type 0) (s : State) where
   present_there t later id (inr is) = is
 
   -- no change removes an object
-  object_stays : (t : State) (c : Change) (id : Oid) → IsThere t.objects id → IsThere (changed t c).objects id
+  object_stays : (t : State) (c : Change) (id : Oid) → IsThere t.objects id → IsThere (apply_change t c).objects id
   object_stays t (SetObject at o) id there = still_there oid_cmp_total t.objects at o id there
   object_stays t c id there = there
 
   -- what leads to an object after one more such change leads to one that was there before it
-  entries_lead : (t : State) (c : Change) → InOrder t c → IsLaterState s t → (spot : Spot) (id : Oid) → map.get (changed t c).entries spot ≡ Some id → IsThere t.objects id
+  entries_lead : (t : State) (c : Change) → InOrder t c → IsLaterState s t → (spot : Spot) (id : Oid) → map.get (apply_change t c).entries spot ≡ Some id → IsThere t.objects id
   entries_lead t (SetEntry spot id) h later =
       each-insert spot_cmp_total spot_cmp_exact (λ (k : Spot) (v : Oid). IsThere t.objects v) t.entries later.no_dangling.entries spot id (present_there t later id h)
   entries_lead t (DropEntry spot) h later = each-remove spot_cmp_total spot_cmp_exact (λ (k : Spot) (v : Oid). IsThere t.objects v) t.entries later.no_dangling.entries spot
   entries_lead t c h later = later.no_dangling.entries
 
-  processes_lead : (t : State) (c : Change) → InOrder t c → IsLaterState s t → (who : Pid) (p : Process) → map.get (changed t c).procs who ≡ Some p → IsThere t.objects p.cwd
+  processes_lead : (t : State) (c : Change) → InOrder t c → IsLaterState s t → (who : Pid) (p : Process) → map.get (apply_change t c).procs who ≡ Some p → IsThere t.objects p.cwd
   processes_lead t (SetProcess who p) h later =
       each-insert pid_cmp_total pid_cmp_exact (λ (k : Pid) (x : Process). IsThere t.objects x.cwd) t.procs later.no_dangling.procs who p (present_there t later p.cwd h.1)
   processes_lead t (DropProcess who) h later = each-remove pid_cmp_total pid_cmp_exact (λ (k : Pid) (x : Process). IsThere t.objects x.cwd) t.procs later.no_dangling.procs who
   processes_lead t c h later = later.no_dangling.procs
 
-  descriptions_lead : (t : State) (c : Change) → InOrder t c → IsLaterState s t → (did : Did) (d : Description) → map.get (changed t c).descriptions did ≡ Some d → IsThere t.objects d.object
+  descriptions_lead : (t : State) (c : Change) → InOrder t c → IsLaterState s t → (did : Did) (d : Description) → map.get (apply_change t c).descriptions did ≡ Some d → IsThere t.objects d.object
   descriptions_lead t (SetDescription did d) h later =
       each-insert did_cmp_total did_cmp_exact (λ (k : Did) (x : Description). IsThere t.objects x.object) t.descriptions later.no_dangling.descriptions did d
       (present_there t later d.object h.1)
@@ -293,7 +293,7 @@ module _ (Born : Pid → Type 0) (s : State) where
       each-remove did_cmp_total did_cmp_exact (λ (k : Did) (x : Description). IsThere t.objects x.object) t.descriptions later.no_dangling.descriptions did
   descriptions_lead t c h later = later.no_dangling.descriptions
 
-  no_dangling_changed : (t : State) (c : Change) → InOrder t c → IsLaterState s t → NoDangling (changed t c)
+  no_dangling_changed : (t : State) (c : Change) → InOrder t c → IsLaterState s t → NoDangling (apply_change t c)
   no_dangling_changed t c h later = record {
     root_there = object_stays t c root later.no_dangling.root_there;
     entries = λ spot id e. object_stays t c id (entries_lead t c h later spot id e);
@@ -302,10 +302,10 @@ module _ (Born : Pid → Type 0) (s : State) where
   }
 
   -- a state after a list of such changes is a later one
-  pub later_all : (cs : List Change) (t : State) → AreNumbered (IsThere s.objects) Born s t cs → IsLaterState s t → IsLaterState s (changed_by t cs)
+  pub later_all : (cs : List Change) (t : State) → AreNumbered (IsThere s.objects) Born s t cs → IsLaterState s t → IsLaterState s (apply_changes t cs)
   later_all [] t h later = later
   later_all (c ∷ cs) t h later =
-      later_all cs (changed t c) h.1
+      later_all cs (apply_change t c) h.1
       (record { on = go_on_changed t c h.0 later.on; stay = λ id was. object_stays t c id (later.stay id was); no_dangling = no_dangling_changed t c h.0 later })
 
 pub go_on_itself : (s : State) → NumbersGoOn s s

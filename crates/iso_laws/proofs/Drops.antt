@@ -20,17 +20,17 @@ use Rattle.kern_model.specs.declared.records.Rec.TheVariants as rec
 use Rattle.kern_model.specs.declared.world.World.{World}
 use Rattle.kern_model.specs.declared.world.WorldProc.{WorldProc}
 use Rattle.kern_model.specs.declared.world.ScriptItem.{ScriptItem}
-use Rattle.kern_model.specs.Boot.{boot, boot_recs, boot_process, started, objects_loaded}
+use Rattle.kern_model.specs.Boot.{boot, boot_recs, boot_process, boot_recs_from, objects_loaded}
 use Rattle.kern_model.specs.Lineage.{caps_after_one, caps_after, caps_of, all_recs}
 use Rattle.kern_model.specs.Names.{name_of}
 use Rattle.kern_model.specs.Row.{Row, Subject, judge, exercise_with}
 use Rattle.kern_model.specs.Rules.{cap_of, denial_of, cap_grow}
 use Rattle.kern_model.specs.Run.{CallRecord, run}
 use Rattle.kern_model.specs.State.{State, Process, Change}
-use Rattle.kern_model.specs.Step.{step, step_by, settled, subject, own_of}
+use Rattle.kern_model.specs.Step.{step, step_by, step_result, subject, own_of}
 use Rattle.kern_model.specs.Table.{row}
 use Rattle.iso_laws.specs.Laws.{DropsByRecords}
-use Rattle.iso_laws.proofs.Part.{bound-changed}
+use Rattle.iso_laws.proofs.Part.{bound-apply_change}
 use Rattle.iso_laws.proofs.Rows.{Passes, excludes_none, none_excluded, used_preserves}
 use Rattle.iso_laws.proofs.Steps.{fixed_after}
 use Rattle.iso_laws.proofs.Booting.{fixed_booted}
@@ -102,7 +102,7 @@ module _ (s : State) (f : Pid → CapState) (has : HaveCaps s f) (who : Pid) (p 
       (row_kinds (Passes excludes_none a) (λ b. b ≡ false) (PremiseHolds s c) s who p is c (λ x h. h)) (none_excluded (judge a [] (row s who p c)).used)
 
 module _ (s : State) (who : Pid) (c : Call) (f : Pid → CapState) (has : HaveCaps s f) where
-  settled_drops : (p : Process) → map.get s.procs who ≡ Some p → AllDrop s.bound f (settled s who p (name_of c) (judge (subject who p) [] (row s who p c))).recs
+  settled_drops : (p : Process) → map.get s.procs who ≡ Some p → AllDrop s.bound f (step_result s who p (name_of c) (judge (subject who p) [] (row s who p c))).recs
   settled_drops p is =
       let used : List Rec = (judge (subject who p) [] (row s who p c)).used in
       let has' : HaveCaps s (caps_after s.bound f used) =
@@ -128,10 +128,10 @@ run_drops (i ∷ is) s bound f same has =
     let has' : HaveCaps next (caps_after bound f recs) =
     have_same next (caps_after s.bound f recs) (caps_after bound f recs) (λ q. ap (λ b. caps_after b f recs q) same) (have_after_step s i.who i.call f has) in
     drop-append bound f recs _ (subst (λ b. AllDrop b f recs) same (step_drops s i.who i.call f has))
-    (run_drops is next bound (caps_after bound f recs) (fixed_after s i.who i.call (λ t. t.bound) bound-changed ∙ same) has')
+    (run_drops is next bound (caps_after bound f recs) (fixed_after s i.who i.call (λ t. t.bound) bound-apply_change ∙ same) has')
 
 -- no record of a start is one of `cap_set_proc`
-start_drops : (bound : CapSet) (ws : List WorldProc) (s : State) (f : Pid → CapState) → AllDrop bound f (started s ws)
+start_drops : (bound : CapSet) (ws : List WorldProc) (s : State) (f : Pid → CapState) → AllDrop bound f (boot_recs_from s ws)
 start_drops bound [] s f = tt
 start_drops bound (w ∷ ws) s f = (tt, start_drops bound ws (boot_process s w) _)
 
@@ -139,7 +139,7 @@ start_drops bound (w ∷ ws) s f = (tt, start_drops bound ws (boot_process s w) 
 pub all_drop : (w : World) (items : List ScriptItem) → AllDrop w.bound (λ _. no_flags) (all_recs w items)
 all_drop w items =
     drop-append w.bound (λ _. no_flags) (boot_recs w) _ (start_drops w.bound w.procs (objects_loaded w) (λ _. no_flags))
-    (run_drops items (boot w) w.bound (caps_of w.bound (boot_recs w)) (fixed_booted (λ s. s.bound) bound-changed w) (have_booted w))
+    (run_drops items (boot w) w.bound (caps_of w.bound (boot_recs w)) (fixed_booted (λ s. s.bound) bound-apply_change w) (have_booted w))
 
 pub drops_by_records : DropsByRecords
 drops_by_records w items before after who caps e =

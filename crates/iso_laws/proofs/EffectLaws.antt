@@ -6,6 +6,7 @@ use Rattle.std.proofs.Common.{arith, sym, ap, inl, inr}
 use Rattle.std.specs.FinMap as map
 use Rattle.std.specs.FinMap.{FinMap}
 use Rattle.cap_bits.specs.declared.state.CapState.{CapState}
+use Rattle.cap_bits.specs.FileCaps.{shown}
 use Rattle.fs_path.specs.Name.{Name}
 use Rattle.lab_lattice.specs.Label.{Label, label_cmp, dominates}
 use Rattle.kern_model.specs.declared.calls.Ending.{Ending}
@@ -17,13 +18,13 @@ use Rattle.kern_model.specs.declared.objects.Object.{Object}
 use Rattle.kern_model.specs.declared.records.Rec.{Rec}
 use Rattle.kern_model.specs.declared.records.Rec.TheVariants as rec
 use Rattle.kern_model.specs.Create.{creation}
-use Rattle.kern_model.specs.Descriptors.{Opened, closing}
+use Rattle.kern_model.specs.Descriptors.{Opened, changes_of_close}
 use Rattle.kern_model.specs.Drawing.{IsDrawnBetween}
 use Rattle.kern_model.specs.Exec.{exec_caps, exec_ids}
-use Rattle.kern_model.specs.FileRows.{opening}
+use Rattle.kern_model.specs.FileRows.{description_creation}
 use Rattle.kern_model.specs.Lineage.{caps_after}
 use Rattle.kern_model.specs.ProcessRows.{child_of, ending_of}
-use Rattle.kern_model.specs.State.{State, Process, Change, SetObject, DrawProcess, changed, changed_by, drawn, object_at, next_object, next_process}
+use Rattle.kern_model.specs.State.{State, Process, Change, SetObject, DrawProcess, apply_change, apply_changes, last_drawn, object_at, next_object, next_process}
 use Rattle.kern_model.specs.Valid.{IsValid, IsThere}
 use Rattle.kern_model.proofs.KeyLaws.{oid_cmp_total}
 use Rattle.kern_model.proofs.MapLemmas.{get-insert_same}
@@ -31,7 +32,7 @@ use Rattle.iso_laws.proofs.Along.{WalksTo, ToRoot, ToCurrent, ToEntry, Reaches, 
 use Rattle.iso_laws.proofs.BelowRows.{CheckBelow, OwnBelow, NumberBelow, leads_below, object_below, process_below}
 use Rattle.iso_laws.proofs.CapsLemmas.{HaveCaps, have_same, have_set, LeavesCaps, have_over_all}
 use Rattle.iso_laws.proofs.ClosingLemmas.{each_closing, each_ending}
-use Rattle.iso_laws.proofs.DrawingLemmas.{LeadsTo, IsPresent, AreNumbered, IsNumberedAnywhere, numbered-append, numbered_anywhere, drawn_since}
+use Rattle.iso_laws.proofs.DrawingLemmas.{LeadsTo, IsPresent, AreNumbered, IsNumberedAnywhere, entries_from-append, numbered_anywhere, drawn_since}
 use Rattle.iso_laws.proofs.Effects.{Premise, InRange, CheckKind, OfObject, OfCaller, OfNumber, OfLiving, Effect, NoChange, Note, SetIds, SetUmask, SetSwitch, SetCaps, Execute, SetLabel, ChangeDir, RemoveEmpty, RemoveFile, Link, Move, Create, Duplicate, Seek, Close, ReadStream, WriteStream, WriteFile, Open, OpenEmptied, OpenMade, MakePipe, SetAttr, SetFileCaps, KeepLabel, Relabel, MakeChild, Await, EndProcess}
 use Rattle.iso_laws.proofs.PartReads.{IsPathTarget, IsOpen, entry_target, dir_target}
 
@@ -78,20 +79,20 @@ NumberedByCaller There s who cs own = AreNumbered There (IsForkedBy who own) s s
 
 -- one number is drawn, or two at once
 module _ (m : FinMap label_cmp ℕ) (l : Label) where
-  next_is_above : drawn m l ≤ drawn m l + 1
+  next_is_above : last_drawn m l ≤ last_drawn m l + 1
   next_is_above = omega arith
 
-  next_drawn : IsDrawnBetween m (map.insert m l (drawn m l + 1)) l (drawn m l + 1)
-  next_drawn = drawn_since m m l (drawn m l + 1) (drawn m l + 1) (omega arith) (omega arith)
+  next_drawn : IsDrawnBetween m (map.insert m l (last_drawn m l + 1)) l (last_drawn m l + 1)
+  next_drawn = drawn_since m m l (last_drawn m l + 1) (last_drawn m l + 1) (omega arith) (omega arith)
 
-  second_is_above : drawn m l ≤ drawn m l + 2
+  second_is_above : last_drawn m l ≤ last_drawn m l + 2
   second_is_above = omega arith
 
-  first_of_two : IsDrawnBetween m (map.insert m l (drawn m l + 2)) l (drawn m l + 1)
-  first_of_two = drawn_since m m l (drawn m l + 1) (drawn m l + 2) (omega arith) (omega arith)
+  first_of_two : IsDrawnBetween m (map.insert m l (last_drawn m l + 2)) l (last_drawn m l + 1)
+  first_of_two = drawn_since m m l (last_drawn m l + 1) (last_drawn m l + 2) (omega arith) (omega arith)
 
-  second_of_two : IsDrawnBetween m (map.insert m l (drawn m l + 2)) l (drawn m l + 2)
-  second_of_two = drawn_since m m l (drawn m l + 2) (drawn m l + 2) (omega arith) (omega arith)
+  second_of_two : IsDrawnBetween m (map.insert m l (last_drawn m l + 2)) l (last_drawn m l + 2)
+  second_of_two = drawn_since m m l (last_drawn m l + 2) (last_drawn m l + 2) (omega arith) (omega arith)
 
 module _ (There : Oid → Type 0) (s : State) (leads : LeadsTo There s) (who : Pid) (p : Process) (is : map.get s.procs who ≡ Some p) where
   -- changes are numbered in order from a state on, and no child is born
@@ -127,10 +128,10 @@ module _ (There : Oid → Type 0) (s : State) (leads : LeadsTo There s) (who : P
 
   -- what opens an object is numbered in order where the object is present
   opening_numbered : (t : State) (id : Oid) (flags : OpenFlags) → t.description_numbers ≡ s.description_numbers → IsPresent There (IsForkedBy who None) s t id
-      → AreNumberedFrom t (opening s who p id flags)
+      → AreNumberedFrom t (description_creation s who p id flags)
   opening_numbered t id flags same known =
-      let up : drawn t.description_numbers p.label ≤ drawn s.description_numbers p.label + 1 = omega (arith, ap (λ m. drawn m p.label) same) in
-      let n : ℕ = drawn s.description_numbers p.label + 1 in
+      let up : last_drawn t.description_numbers p.label ≤ last_drawn s.description_numbers p.label + 1 = omega (arith, ap (λ m. last_drawn m p.label) same) in
+      let n : ℕ = last_drawn s.description_numbers p.label + 1 in
       let new : IsDrawnBetween s.description_numbers (map.insert t.description_numbers p.label n) p.label n =
       drawn_since s.description_numbers t.description_numbers p.label n n (omega arith) (omega arith) in
       (up, ((inr new, known), ((inl caller_there, inl cwd_there), tt)))
@@ -163,7 +164,7 @@ module _ (There : Oid → Type 0) (s : State) (leads : LeadsTo There s) (who : P
     numbered_effect cs own (Close fd) = (
       (
         (inl caller_there, inl cwd_there),
-        numbered_anywhere There (IsForkedBy who None) s (closing s _) _
+        numbered_anywhere There (IsForkedBy who None) s (changes_of_close s _) _
             (each_closing s (IsNumberedAnywhere There (IsForkedBy who None) s) (λ did t. tt) (λ did d e t. inl (leads.descriptions did d e)) _),
       ),
       tt,
@@ -175,11 +176,11 @@ module _ (There : Oid → Type 0) (s : State) (leads : LeadsTo There s) (who : P
     numbered_effect cs own (Open id flags place may) = (opening_numbered s id flags refl (inl (walked_there id may.walked)), tt)
     numbered_effect cs own (OpenEmptied id flags place attr may empties mode) =
         let there : There id = walked_there id may.walked in
-        ((inl there, opening_numbered (changed s (SetObject id (record (object_at s id) { attr = attr; bytes = [] }))) id flags refl (inl there)), tt)
+        ((inl there, opening_numbered (apply_change s (SetObject id (record (object_at s id) { attr = attr; bytes = [] }))) id flags refl (inl there)), tt)
     numbered_effect cs own (OpenMade dir name o place flags making file room) =
         let before : List Change = creation s p.label dir name o in (
-          numbered-append There (IsForkedBy who None) s before (opening s who p (next_object s p.label) flags) s (made_numbered dir name o)
-              (opening_numbered (changed_by s before) (next_object s p.label) flags refl (inr (made_there o))),
+          entries_from-append There (IsForkedBy who None) s before (description_creation s who p (next_object s p.label) flags) s (made_numbered dir name o)
+              (opening_numbered (apply_changes s before) (next_object s p.label) flags refl (inr (made_there o))),
           tt,
         )
     numbered_effect cs own (MakePipe left full none) = (
@@ -243,7 +244,7 @@ module _ (s : State) (valid : IsValid s) (who : Pid) (p : Process) (is : map.get
 -- ---- records give the capability sets
 -- after the changes each living process has the sets that the own record gives
 abbrev pub MatchesRecord : State → (Pid → CapState) → List Change → Option Rec → Type 0
-MatchesRecord s f cs own = HaveCaps (changed_by s cs) (caps_after s.bound f (option_to_list own))
+MatchesRecord s f cs own = HaveCaps (apply_changes s cs) (caps_after s.bound f (option_to_list own))
 
 -- the changes leave each process its sets, and so does the own record
 abbrev AllLeaveCaps : State → (Pid → CapState) → List Change → Option Rec → Type 0
@@ -252,7 +253,7 @@ AllLeaveCaps s f cs own = AllByRecursion (LeavesCaps f) cs × ((q : Pid) → cap
 module _ (s : State) (f : Pid → CapState) (has : HaveCaps s f) where
   -- where neither the changes nor the own record change the sets
   all_leave_match : (cs : List Change) (own : Option Rec) → AllLeaveCaps s f cs own → MatchesRecord s f cs own
-  all_leave_match cs own calm = have_same (changed_by s cs) f (caps_after s.bound f (option_to_list own)) (λ q. sym (calm.1 q)) (have_over_all cs s f has calm.0)
+  all_leave_match cs own calm = have_same (apply_changes s cs) f (caps_after s.bound f (option_to_list own)) (λ q. sym (calm.1 q)) (have_over_all cs s f has calm.0)
 
   module _ (who : Pid) (p : Process) (is : map.get s.procs who ≡ Some p) (Known : Check → Type 0) (Not : Bool → Type 0) (Given : Premise → Type 0) where
     own_caps : p.caps ≡ f who
@@ -262,10 +263,10 @@ module _ (s : State) (f : Pid → CapState) (has : HaveCaps s f) where
     reports_effect cs own (SetCaps caps grow) = have_set s f (λ q. caps) has who (record p { caps = caps }) refl
     reports_effect cs own (Execute id walked) =
         let o : Object = object_at s id in
-        have_set s f (λ q. exec_caps (f q) o.attr.caps s.bound) has who (record p { ids = exec_ids p.ids o.attr; caps = exec_caps p.caps o.attr.caps s.bound })
-        (ap (λ c. exec_caps c o.attr.caps s.bound) own_caps)
+        have_set s f (λ q. exec_caps (f q) (shown o.attr.caps) s.bound) has who (record p { ids = exec_ids p.ids o.attr; caps = exec_caps p.caps (shown o.attr.caps) s.bound })
+        (ap (λ c. exec_caps c (shown o.attr.caps) s.bound) own_caps)
     reports_effect cs own (MakeChild few) =
-        have_set (changed s (DrawProcess p.label (drawn s.process_numbers p.label + 1))) f (λ q. f who) has (next_process s p.label) (child_of who p) own_caps
+        have_set (apply_change s (DrawProcess p.label (last_drawn s.process_numbers p.label + 1))) f (λ q. f who) has (next_process s p.label) (child_of who p) own_caps
     reports_effect cs own NoChange = all_leave_match cs own (tt, λ q. refl)
     reports_effect cs own (Note bytes) = all_leave_match cs own (tt, λ q. refl)
     -- the caller is set

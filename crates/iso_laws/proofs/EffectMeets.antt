@@ -1,12 +1,15 @@
 -- A property of changes holds of each kind of effect where it holds in each of the cases.
-use Rattle.std.specs.Prelude.{◌≡◌, ℕ, ◌+◌, ◌≤◌, ◌&&◌, ◌||◌, not, length, take, Bool, true, false, List, [], ◌∷◌, ◌++◌, drop, Option, Some, refl}
+use Rattle.std.specs.Prelude.{◌≡◌, ℕ, ◌+◌, ◌≤◌, ◌&&◌, ◌||◌, not, length, take, Bool, true, false, List, [], ◌∷◌, ◌++◌, drop, Option, Some, refl, cond}
 use Rattle.std.proofs.Common.{sym, ◌∙◌, ap, subst, arith, inl, inr}
-use Rattle.std.proofs.lemmas.Bool.{and_parts, and_cases, leb-true, leb-false, ltb-false, not-false, not-true, true≢false}
+use Rattle.std.proofs.lemmas.Bool.{and_parts, and_cases, or_parts, leb-true, leb-false, ltb-false, not-false, not-true, true≢false}
 use Rattle.std.proofs.lemmas.List.{length-append, length-drop, length-take}
 use Rattle.std.specs.FinMap as map
-use Rattle.std.specs.FinSet.{contains-is_subset, contains-intersection}
-use Rattle.cap_bits.specs.CapSet.{CapSet, is_within, meet_of}
-use Rattle.cap_bits.specs.Laws.{cap_cmp_total}
+use Rattle.cap_bits.specs.CapSet as set
+use Rattle.cap_bits.specs.CapSet.{CapSet, is_within, no_caps}
+use Rattle.cap_bits.specs.declared.state.CapState.{CapState}
+use Rattle.cap_bits.specs.FileCaps.{caps_by, shown}
+use Rattle.cap_bits.specs.Laws.{has-within}
+use Rattle.cap_bits.proofs.CapSets.{has-no_caps}
 use Rattle.fs_path.specs.Name.{Name}
 use Rattle.lab_lattice.specs.Label.{Label, dominates}
 use Rattle.lab_lattice.proofs.Labels.{dominates_both}
@@ -22,10 +25,11 @@ use Rattle.kern_model.specs.declared.records.Rec.{Rec}
 use Rattle.kern_model.specs.Arguments.{are_flags}
 use Rattle.kern_model.specs.Descriptors.{Opened}
 use Rattle.kern_model.specs.Entries.{is_empty, link_count}
+use Rattle.kern_model.specs.Exec.{exec_caps, exec_permitted}
 use Rattle.kern_model.specs.FileRows.{open_object, place_in, written_over}
 use Rattle.kern_model.specs.Kinds.{is_dir, is_file, is_fifo, is_mode}
 use Rattle.kern_model.specs.Rules.{cap_grow, created_order, held_order, link_dir, relabelled_order, unlink_dir}
-use Rattle.kern_model.specs.State.{State, Process, Change, SetObject, drawn, object_at, stub_object}
+use Rattle.kern_model.specs.State.{State, Process, Change, SetObject, last_drawn, object_at, stub_object}
 use Rattle.kern_model.specs.Step.{subject}
 use Rattle.kern_model.specs.Valid.{IsValid, IsThere, IsDir, IsValidObject, IsValidProcess}
 use Rattle.kern_model.proofs.KindLemmas.{file_kind, other_kind}
@@ -69,9 +73,14 @@ written_length old at bytes most within ends few =
     let after : List ℕ = drop (at + length bytes) old in
     omega (arith, length-append (take at old) (bytes ++ after), length-append bytes after, length-take at old, length-drop (at + length bytes) old)
 
--- what two capability sets share is within the second one
-within_meet : (a b : CapSet) → is_within (meet_of a b) b ≡ true
-within_meet a b = contains-is_subset cap_cmp_total (meet_of a b) b (λ q h. (and_parts _ _ (sym (contains-intersection cap_cmp_total a b q) ∙ h)).1)
+-- no capability, or all of a set, is within the set
+none_or_all_within : (b : Bool) (a : CapSet) → is_within (cond b no_caps a) a ≡ true
+none_or_all_within true a = has-within no_caps a (λ q h. absurd (true≢false (sym h ∙ has-no_caps q)))
+none_or_all_within false a = has-within a a (λ q h. h)
+
+-- what is effective is permitted after exec
+exec_within : (old file : CapState) (bound : CapSet) → is_within (exec_caps old file bound).e (exec_caps old file bound).p ≡ true
+exec_within old file bound = none_or_all_within (set.is_empty file.e) (exec_permitted old file bound)
 
 -- flags as a call may have them empty a file only where they ask to write
 flags_write : (f : OpenFlags) → are_flags f ≡ true → f.t ≡ true → f.w ≡ true
@@ -151,7 +160,9 @@ module _ (excluded : Rec → Bool) (s : State) (valid : IsValid s) (who : Pid) (
   effect_satisfies cs own (SetCaps caps passes) =
       let grow = rule_holds excluded (subject who p) (cap_grow who p caps) refl passes in
       cases.set_caller p.ids caps p.umask p.audited refl (and_parts _ _ (and_parts _ _ grow).0).1 (λ _. own_valid.umask)
-  effect_satisfies cs own (Execute id walked) = cases.set_caller _ _ p.umask p.audited refl (within_meet _ _) (λ _. own_valid.umask)
+  effect_satisfies cs own (Execute id walked) =
+      let file : CapState = shown (object_at s id).attr.caps in
+      cases.set_caller _ (exec_caps p.caps file s.bound) p.umask p.audited refl (exec_within p.caps file s.bound) (λ _. own_valid.umask)
   effect_satisfies cs own (SetLabel new allowed args) = cases.label new allowed (λ f. args (ranges f))
   effect_satisfies cs own (ChangeDir id place walked read dir) = cases.cwd id place read (dir_of id dir)
   -- entries
@@ -218,8 +229,8 @@ module _ (excluded : Rec → Bool) (s : State) (valid : IsValid s) (who : Pid) (
       cases.attributes id (object_at s id) attr place (there id reaches) written (λ f. mode old.mode (ranges f)) (λ other. caps ∙ old.only_files other)
   effect_satisfies cs own (SetFileCaps id caps place reaches written file) =
       let old = reached_valid id reaches in
-      cases.attributes id (object_at s id) (record (object_at s id).attr { caps = caps }) place (there id reaches) written (λ _. old.mode)
-      (λ other. absurd (true≢false (sym (not-false _ file) ∙ other)))
+      cases.attributes id (object_at s id) (record (object_at s id).attr { caps = caps_by caps }) place (there id reaches) written (λ _. old.mode)
+      (λ other. absurd (true≢false (sym (not-false _ (or_parts _ _ file).0) ∙ other)))
   effect_satisfies cs own (KeepLabel id new place reaches written equal args) =
       let o : Object = object_at s id in
       let old = reached_valid id reaches in
@@ -232,6 +243,6 @@ module _ (excluded : Rec → Bool) (s : State) (valid : IsValid s) (who : Pid) (
       (record { allowed = relabel.allowed; above = keeps.0; no_root = not-true _ keeps.1; no_entries = has_no_entries s valid id relabel.no_entries })
       (λ f. args (ranges f))
   -- processes
-  effect_satisfies cs own (MakeChild left) = cases.fork (omega (arith, leb-false MAX_PROCS (drawn s.process_numbers p.label) left))
+  effect_satisfies cs own (MakeChild left) = cases.fork (omega (arith, leb-false MAX_PROCS (last_drawn s.process_numbers p.label) left))
   effect_satisfies cs own (Await e es ended) = cases.await e es ended
   effect_satisfies cs own (EndProcess q x how at may) = cases.end_process q x how at may

@@ -1,11 +1,12 @@
 -- The kinds of checks and of effects that the rows of the call table have. A kind holds what the row says, and nothing that only a valid state says.
-use Rattle.std.specs.Prelude.{◌≡◌, ◌⊎◌, ℕ, ◌+◌, ◌/◌, ◌%◌, ◌==◌, ◌≤◌, ◌&&◌, ◌++◌, not, nat_le, nat_lt, Bool, true, false, List, [], ◌∷◌, length, drop, Option, Some, None}
+use Rattle.std.specs.Prelude.{◌≡◌, ◌⊎◌, ℕ, ◌+◌, ◌/◌, ◌%◌, ◌==◌, ◌≤◌, ◌&&◌, ◌||◌, ◌++◌, not, nat_le, nat_lt, Bool, true, false, List, [], ◌∷◌, length, drop, Option, Some, None}
 use Rattle.std.proofs.Common.{ap, arith}
 use Rattle.std.proofs.lemmas.Bool.{and_from, le-leb}
 use Rattle.std.proofs.lemmas.Nat.{and_le_l, and_le_r}
 use Rattle.std.specs.Int.{bit_not, w16}
 use Rattle.std.specs.FinMap as map
 use Rattle.cap_bits.specs.declared.state.CapState.{CapState}
+use Rattle.cap_bits.specs.FileCaps.{caps_by, is_uniform, shown}
 use Rattle.fs_path.specs.Name.{Name, is_name}
 use Rattle.fs_path.specs.declared.values.TheConstants.{MAX_MODE, STICKY}
 use Rattle.lab_lattice.specs.Label.{Label, dominates}
@@ -27,16 +28,16 @@ use Rattle.kern_model.specs.declared.records.Rec.TheVariants as rec
 use Rattle.kern_model.specs.AttrRows.{with_attr}
 use Rattle.kern_model.specs.Arguments.{are_flags, has_names, is_call}
 use Rattle.kern_model.specs.Create.{creation, has_object_number}
-use Rattle.kern_model.specs.Descriptors.{Opened, closing, with_descriptor}
+use Rattle.kern_model.specs.Descriptors.{Opened, changes_of_close, with_descriptor}
 use Rattle.kern_model.specs.Entries.{is_empty, is_removed, is_under, link_count}
 use Rattle.kern_model.specs.Exec.{exec_caps, exec_ids}
-use Rattle.kern_model.specs.FileRows.{open_object, opening, offset_change, with_bytes, content_change, pipe_creation, place_in, written_over, has_free_descriptors, has_descriptions}
+use Rattle.kern_model.specs.FileRows.{open_object, description_creation, offset_change, with_bytes, content_change, pipe_creation, place_in, written_over, has_free_descriptors, has_descriptions}
 use Rattle.kern_model.specs.Keys.{same_oid}
-use Rattle.kern_model.specs.Kinds.{is_dir, is_file, is_fifo, is_mode, is_permission, is_stream, masked, permissions}
+use Rattle.kern_model.specs.Kinds.{is_dir, is_file, is_fifo, is_mode, is_permission, is_stream, masked_permissions, permissions}
 use Rattle.kern_model.specs.ProcessRows.{child_of, ending_of}
 use Rattle.kern_model.specs.Row.{Row}
 use Rattle.kern_model.specs.Rules.{created_order, on_object, on_process, on_caller, same_label, mac_read, mac_write, mac_write_process, mac_change_of, mac_subject, relabelled_order, held_order, link_dir, unlink_dir, cap_grow}
-use Rattle.kern_model.specs.State.{State, Process, Change, SetObject, SetProcess, SetEntry, DropEntry, DrawProcess, drawn, next_object, next_process, object_at, look}
+use Rattle.kern_model.specs.State.{State, Process, Change, SetObject, SetProcess, SetEntry, DropEntry, DrawProcess, last_drawn, next_object, next_process, object_at, look}
 use Rattle.iso_laws.proofs.PlayableCalls.{has_flags}
 use Rattle.iso_laws.proofs.Along.{Along, WalksTo, Reaches}
 use Rattle.iso_laws.proofs.PartReads.{IsOpen}
@@ -133,8 +134,8 @@ module _ (Known : Check → Type 0) (Not : Bool → Type 0) (Given : Premise →
     -- the caller gets other capability sets, or those and the users and groups that a program gives
     SetCaps : (caps : CapState) → Known (cap_grow who p caps) → Effect (SetProcess who (record p { caps = caps }) ∷ []) (Some (rec.CapSetProc who caps))
     Execute : (id : Oid) → WalksTo s p id
-        → Effect (SetProcess who (record p { ids = exec_ids p.ids (object_at s id).attr; caps = exec_caps p.caps (object_at s id).attr.caps s.bound }) ∷ [])
-        (Some (rec.Exec who id (object_at s id).attr.caps (exec_caps p.caps (object_at s id).attr.caps s.bound)))
+        → Effect (SetProcess who (record p { ids = exec_ids p.ids (object_at s id).attr; caps = exec_caps p.caps (shown (object_at s id).attr.caps) s.bound }) ∷ [])
+        (Some (rec.Exec who id (shown (object_at s id).attr.caps) (exec_caps p.caps (shown (object_at s id).attr.caps) s.bound)))
     -- the caller gets another label
     SetLabel : (new : Label) → (not (same_label new p.label) ≡ true → Known (mac_subject who p new)) → (Given InRange → dominates s.top new ≡ true)
         → Effect (SetProcess who (record p { label = new }) ∷ []) (Some (rec.MacSetProc who p.label new))
@@ -161,7 +162,7 @@ module _ (Known : Check → Type 0) (Not : Bool → Type 0) (Given : Premise →
     -- a descriptor is shared, moves, or closes
     Duplicate : (fd : ℕ) (f : Opened) → IsOpen s p fd f → Not (not (has_free_descriptors p 1)) → Effect (SetProcess who (with_descriptor p f.did) ∷ []) None
     Seek : (fd : ℕ) (f : Opened) (offset : ℕ) → IsOpen s p fd f → Effect (offset_change f offset ∷ []) None
-    Close : (fd : ℕ) → Effect (SetProcess who (without_fd p fd) ∷ closing s (has_fd who fd)) None
+    Close : (fd : ℕ) → Effect (SetProcess who (without_fd p fd) ∷ changes_of_close s (has_fd who fd)) None
     -- bytes come out of a pipe or FIFO, or go into one
     ReadStream : (fd : ℕ) (f : Opened) (n : ℕ) → IsOpen s p fd f → Known (mac_write s p f.description.object Handle) → is_stream (open_object s f).kind ≡ true
         → Effect (with_bytes s f.description.object (drop n (open_object s f).bytes) ∷ []) None
@@ -177,12 +178,12 @@ module _ (Known : Check → Type 0) (Not : Bool → Type 0) (Given : Premise →
         (content_change f.description.object (open_object s f) (written_over (open_object s f).bytes (place_in (open_object s f) f) bytes) attr ∷ offset_change f offset ∷ [])
         None
     -- an object is opened, emptied and opened, or made and opened
-    Open : (id : Oid) (flags : OpenFlags) (place : Place) → Opens id flags place → Effect (opening s who p id flags) None
+    Open : (id : Oid) (flags : OpenFlags) (place : Place) → Opens id flags place → Effect (description_creation s who p id flags) None
     OpenEmptied : (id : Oid) (flags : OpenFlags) (place : Place) (attr : Attr) → Opens id flags place → (flags.t && is_file (object_at s id).kind) ≡ true
         → (is_mode (object_at s id).attr.mode ≡ true → is_mode attr.mode ≡ true)
-        → Effect (content_change id (object_at s id) [] attr ∷ opening s who p id flags) None
+        → Effect (content_change id (object_at s id) [] attr ∷ description_creation s who p id flags) None
     OpenMade : (dir : Oid) (name : Name) (o : Object) (place : Place) (flags : OpenFlags) → Creates dir name o place → is_file o.kind ≡ true → Room
-        → Effect (creation s p.label dir name o ++ opening s who p (next_object s p.label) flags) None
+        → Effect (creation s p.label dir name o ++ description_creation s who p (next_object s p.label) flags) None
     -- a pipe is made and opened at both ends
     MakePipe : Not (not (has_object_number s p.label)) → Not (not (has_free_descriptors p 2)) → Not (not (has_descriptions s p 2)) → Effect (pipe_creation s who p) None
     -- an object gets other attributes, but no other capability sets
@@ -190,8 +191,9 @@ module _ (Known : Check → Type 0) (Not : Bool → Type 0) (Given : Premise →
         → (is_mode (object_at s id).attr.mode ≡ true → Given InRange → is_mode attr.mode ≡ true) → attr.caps ≡ (object_at s id).attr.caps
         → Effect (with_attr id (object_at s id) attr ∷ []) None
     -- a file gets capability sets
-    SetFileCaps : (id : Oid) (caps : CapState) (place : Place) → Reaches s p id → Known (mac_write s p id place) → Not (not (is_file (object_at s id).kind))
-        → Effect (with_attr id (object_at s id) (record (object_at s id).attr { caps = caps }) ∷ []) (Some (rec.CapSetFile who id caps))
+    SetFileCaps : (id : Oid) (caps : CapState) (place : Place) → Reaches s p id → Known (mac_write s p id place)
+        → Not (not (is_file (object_at s id).kind) || not (is_uniform caps))
+        → Effect (with_attr id (object_at s id) (record (object_at s id).attr { caps = caps_by caps }) ∷ []) (Some (rec.CapSetFile who id caps))
     -- an object gets the label that it has, or another one
     KeepLabel : (id : Oid) (new : Label) (place : Place) → Reaches s p id → Known (mac_write s p id place) → same_label new (object_at s id).label ≡ true
         → (Given InRange → dominates s.top new ≡ true)
@@ -200,8 +202,8 @@ module _ (Known : Check → Type 0) (Not : Bool → Type 0) (Given : Premise →
         → (Given InRange → dominates s.top new ≡ true)
         → Effect (SetObject id (record (object_at s id) { label = new }) ∷ []) (Some (rec.MacSetFile who id (object_at s id).label new))
     -- the caller forks, or has awaited the first of its children that ended
-    MakeChild : Not (nat_le MAX_PROCS (drawn s.process_numbers p.label))
-        → Effect (DrawProcess p.label (drawn s.process_numbers p.label + 1) ∷ SetProcess (next_process s p.label) (child_of who p) ∷ [])
+    MakeChild : Not (nat_le MAX_PROCS (last_drawn s.process_numbers p.label))
+        → Effect (DrawProcess p.label (last_drawn s.process_numbers p.label + 1) ∷ SetProcess (next_process s p.label) (child_of who p) ∷ [])
         (Some (rec.Fork who (next_process s p.label)))
     Await : (e : Pid × Ending) (es : List (Pid × Ending)) → p.ended ≡ e ∷ es → Effect (SetProcess who (record p { ended = es }) ∷ []) None
     -- a process ends: the caller, or one that it may end
@@ -230,5 +232,5 @@ small_is_mode m small =
 pub permissions_are_mode : (mode : ℕ) → is_mode (permissions mode) ≡ true
 permissions_are_mode mode = small_is_mode (permissions mode) (and_le_r mode MAX_PERMISSIONS)
 
-pub masked_is_mode : (mode umask : ℕ) → is_mode (masked mode umask) ≡ true
-masked_is_mode mode umask = small_is_mode (masked mode umask) (omega (arith, and_le_l (permissions mode) (bit_not w16 umask), and_le_r mode MAX_PERMISSIONS))
+pub masked_is_mode : (mode umask : ℕ) → is_mode (masked_permissions mode umask) ≡ true
+masked_is_mode mode umask = small_is_mode (masked_permissions mode umask) (omega (arith, and_le_l (permissions mode) (bit_not w16 umask), and_le_r mode MAX_PERMISSIONS))

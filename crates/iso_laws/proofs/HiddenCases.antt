@@ -9,8 +9,8 @@ use Rattle.kern_model.specs.declared.numbers.Pid.{Pid}
 use Rattle.kern_model.specs.declared.checks.Place.{Place}
 use Rattle.kern_model.specs.declared.checks.Place.TheVariants.{Handle}
 use Rattle.kern_model.specs.Create.{creation}
-use Rattle.kern_model.specs.Descriptors.{Opened, closing}
-use Rattle.kern_model.specs.FileRows.{open_object, opening, offset_change, with_bytes, pipe_creation}
+use Rattle.kern_model.specs.Descriptors.{Opened, changes_of_close}
+use Rattle.kern_model.specs.FileRows.{open_object, description_creation, offset_change, with_bytes, pipe_creation}
 use Rattle.kern_model.specs.ProcessRows.{child_of}
 use Rattle.kern_model.specs.Rules.{mac_write, mac_write_process}
 use Rattle.kern_model.specs.State.{State, Process, SetObject, SetProcess, SetEntry, DropEntry, DrawProcess, next_object, next_process}
@@ -48,18 +48,18 @@ hidden_cases l s kept valid who p ArgsValid is high =
       add_entry = λ dir name id place written is_dir free not_removed named no_dir few order args. part_of_high l s.top (SetEntry (dir, name) id ∷ []) (wrote dir place written is_dir, tt);
       move = λ dir name id into new place there_place written is_dir written_there move args. part_of_high l s.top (DropEntry (dir, name) ∷ SetEntry (into, new) id ∷ []) (wrote dir place written is_dir, (wrote into there_place written_there move.into_is, tt));
       create = λ dir name o place making. part_of_high l s.top (creation s p.label dir name o) (mine, (mine, (wrote dir place making.written making.is_dir, tt)));
-      open_existing = λ id flags place may. part_of_high l s.top (opening s who p id flags) (mine, (mine, (high, tt)));
+      open_existing = λ id flags place may. part_of_high l s.top (description_creation s who p id flags) (mine, (mine, (high, tt)));
       open_emptied = λ id flags place attr may writes file mode.
-          part_of_high l s.top (SetObject id _ ∷ opening s who p id flags) (wrote_there id place (may.written writes) (record { value = may.target.object; is = may.target.is }), (mine, (mine, (high, tt))));
+          part_of_high l s.top (SetObject id _ ∷ description_creation s who p id flags) (wrote_there id place (may.written writes) (record { value = may.target.object; is = may.target.is }), (mine, (mine, (high, tt))));
       open_made = λ dir name o place flags making file room.
-          part_of_high l s.top (creation s p.label dir name o ++ opening s who p (next_object s p.label) flags) (mine, (mine, (wrote dir place making.written making.is_dir, (mine, (mine, (high, tt))))));
+          part_of_high l s.top (creation s p.label dir name o ++ description_creation s who p (next_object s p.label) flags) (mine, (mine, (wrote dir place making.written making.is_dir, (mine, (mine, (high, tt))))));
       duplicate = λ fd f open_is free. unseen _;
       seek = λ fd f offset open_is. part_of_high l s.top (offset_change f offset ∷ []) (described fd f open_is, tt);
       write_stream = λ fd f bytes open_is written stream few. part_of_high l s.top (with_bytes s f.description.object bytes ∷ []) (wrote_open fd f open_is written, tt);
       write_file = λ fd f attr bytes offset open_is written file mode few. part_of_high l s.top (SetObject f.description.object _ ∷ offset_change f offset ∷ []) (wrote_open fd f open_is written, (described fd f open_is, tt));
       pipe = λ left free numbers. part_of_high l s.top (pipe_creation s who p) (mine, (mine, (mine, (mine, (mine, (high, tt))))));
       close = λ fd.
-          hides_first l s.top (SetProcess who (without_fd p fd)) (closing s (has_fd who fd)) high
+          hides_first l s.top (SetProcess who (without_fd p fd)) (changes_of_close s (has_fd who fd)) high
           ∙ closing_hidden l s kept valid (has_fd who fd) (λ d of gone. ap (λ (q : Pid). low l q.label) (same_key pid_cmp_exact d.who who (and_parts _ _ gone).0) ∙ high);
       attributes = λ id o attr place at written mode caps. part_of_high l s.top (SetObject id (record o { attr = attr }) ∷ []) (wrote_there id place written (record { value = o; is = at }), tt);
       relabel = λ id o new place at written relabelling args. part_of_high l s.top (SetObject id (record o { label = new }) ∷ []) (wrote_there id place written (record { value = o; is = at }), tt);

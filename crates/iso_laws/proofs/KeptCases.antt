@@ -19,14 +19,14 @@ use Rattle.kern_model.specs.declared.checks.Place.{Place}
 use Rattle.kern_model.specs.declared.objects.Attr.{Attr}
 use Rattle.kern_model.specs.declared.objects.Kind.TheVariants as kind
 use Rattle.kern_model.specs.declared.objects.Object.{Object}
-use Rattle.kern_model.specs.Create.{drawing, creation}
+use Rattle.kern_model.specs.Create.{object_addition, creation}
 use Rattle.kern_model.specs.Descriptors.{Opened, lowest_free, with_descriptor}
-use Rattle.kern_model.specs.FileRows.{open_object, opening, offset_change, new_pipe, on_pipe, second_description, pipe_creation}
+use Rattle.kern_model.specs.FileRows.{open_object, description_creation, offset_change, new_pipe, on_pipe, second_description, pipe_creation}
 use Rattle.kern_model.specs.Keys.{did_cmp}
 use Rattle.kern_model.specs.Kinds.{is_fifo, is_stream}
 use Rattle.kern_model.specs.ProcessRows.{child_of}
 use Rattle.kern_model.specs.Rules.{same_label, mac_downgrade, mac_subject, mac_upgrade}
-use Rattle.kern_model.specs.State.{State, Process, Description, SetObject, SetProcess, SetDescription, DrawProcess, DrawDescription, changed, changed_by, drawn, next_object, next_description, next_process, object_at, stub_object}
+use Rattle.kern_model.specs.State.{State, Process, Description, SetObject, SetProcess, SetDescription, DrawProcess, DrawDescription, apply_change, apply_changes, last_drawn, next_object, next_description, next_process, object_at, stub_object}
 use Rattle.kern_model.specs.Step.{subject}
 use Rattle.kern_model.specs.Isolation.{low, crosses, Kept}
 use Rattle.kern_model.specs.Valid.{IsValid, IsThere}
@@ -89,69 +89,69 @@ module _ (l : Label) (s : State) (kept : Kept l s) (valid : IsValid s) (who : Pi
   one_beside fds each did side = each-insert nat_cmp_total nat_cmp-IsAntisymmetric (λ (fd : ℕ) (q : Did). low l q.label ≡ low l who.label) fds each (lowest_free fds) did side
 
   -- the caller gets other descriptors
-  kept_fds : (t : State) → Kept l t → (fds : FinMap nat_cmp Did) → AreBeside fds → Kept l (changed t (SetProcess who (record p { fds = fds })))
+  kept_fds : (t : State) → Kept l t → (fds : FinMap nat_cmp Did) → AreBeside fds → Kept l (apply_change t (SetProcess who (record p { fds = fds })))
   kept_fds t kept_t fds each = kept_process l t kept_t who _ (record { label = own.label; parent = own.parent; ended = own.ended; fds = each; cwd = own.cwd })
 
   -- an object is set whose number was free
-  kept_new : (new : Oid) (o : Object) → low l new.label ≡ low l o.label → map.get s.objects new ≡ None → Kept l (changed s (SetObject new o))
+  kept_new : (new : Oid) (o : Object) → low l new.label ≡ low l o.label → map.get s.objects new ≡ None → Kept l (apply_change s (SetObject new o))
   kept_new new o side absent = kept_object l s kept new o side (λ did d e at _.
       let described = valid.descriptions did d e in
       absurd (never_some (map.get s.objects new) described.object absent (ap (map.get s.objects) (sym at) ∙ described.object_is)))
 
   -- an object is set to one of the same kind
-  kept_same : (id : Oid) (o new : Object) → map.get s.objects id ≡ Some o → new.kind ≡ o.kind → low l id.label ≡ low l new.label → Kept l (changed s (SetObject id new))
+  kept_same : (id : Oid) (o new : Object) → map.get s.objects id ≡ Some o → new.kind ≡ o.kind → low l id.label ≡ low l new.label → Kept l (apply_change s (SetObject id new))
   kept_same id o new at same side = kept_object l s kept id new side (λ did d e on stream. kept.streams did d o e (ap (map.get s.objects) on ∙ at) (ap is_stream (sym same) ∙ stream))
 
-  kept_made : (ArgsValid : Type 0) (dir : Oid) (name : Name) (o : Object) (place : Place) → MayCreate (crosses l) s who p ArgsValid dir name o place → Kept l (changed_by s (creation s p.label dir name o))
+  kept_made : (ArgsValid : Type 0) (dir : Oid) (name : Name) (o : Object) (place : Place) → MayCreate (crosses l) s who p ArgsValid dir name o place → Kept l (apply_changes s (creation s p.label dir name o))
   kept_made ArgsValid dir name o place making =
       let new : Oid = next_object s p.label in
-      kept_with l (changed s (SetObject new o)) (kept_new new o (ap (low l) (sym making.fresh.label)) (next_absent s valid p.label)) _ _ s.process_numbers s.description_numbers
+      kept_with l (apply_change s (SetObject new o)) (kept_new new o (ap (low l) (sym making.fresh.label)) (next_absent s valid p.label)) _ _ s.process_numbers s.description_numbers
 
   -- an object is opened
-  kept_opened : (t : State) → Kept l t → (id : Oid) (flags : OpenFlags) → (low l p.label ≡ true → low l id.label ≡ true) → ((o : Object) → map.get t.objects id ≡ Some o → is_stream o.kind ≡ true → low l p.label ≡ low l id.label) → Kept l (changed_by t (opening s who p id flags))
+  kept_opened : (t : State) → Kept l t → (id : Oid) (flags : OpenFlags) → (low l p.label ≡ true → low l id.label ≡ true) → ((o : Object) → map.get t.objects id ≡ Some o → is_stream o.kind ≡ true → low l p.label ≡ low l id.label) → Kept l (apply_changes t (description_creation s who p id flags))
   kept_opened t kept_t id flags side stream =
       let new : Did = next_description s p.label in
-      let drawn_t : State = changed t (DrawDescription p.label (drawn s.description_numbers p.label + 1)) in
+      let drawn_t : State = apply_change t (DrawDescription p.label (last_drawn s.description_numbers p.label + 1)) in
       let d : Description = record { object = id; reads = flags.r; writes = flags.w; appends = flags.a; offset = 0 } in
-      kept_fds (changed drawn_t (SetDescription new d)) (kept_description l drawn_t (kept_with l t kept_t t.entries t.object_numbers t.process_numbers _) new d side stream) _ (one_beside p.fds own.fds new (sym own.label))
+      kept_fds (apply_change drawn_t (SetDescription new d)) (kept_description l drawn_t (kept_with l t kept_t t.entries t.object_numbers t.process_numbers _) new d side stream) _ (one_beside p.fds own.fds new (sym own.label))
 
   -- a descriptor gets another offset
-  kept_moved : (t : State) → Kept l t → t.descriptions ≡ s.descriptions → (fd : ℕ) (f : Opened) (offset : ℕ) → IsOpen s p fd f → Kept l (changed t (offset_change f offset))
+  kept_moved : (t : State) → Kept l t → t.descriptions ≡ s.descriptions → (fd : ℕ) (f : Opened) (offset : ℕ) → IsOpen s p fd f → Kept l (apply_change t (offset_change f offset))
   kept_moved t kept_t same fd f offset open_is =
       let there : map.get t.descriptions f.did ≡ Some f.description = ap (λ (m : FinMap did_cmp Description). map.get m f.did) same ∙ open_is.is in
       kept_description l t kept_t f.did (record f.description { offset = offset }) (kept_t.descriptions f.did f.description there) (λ o. kept_t.streams f.did f.description o there)
 
   -- what a descriptor refers to gets other bytes and attributes
-  kept_rewritten : (fd : ℕ) (f : Opened) (attr : Attr) (bytes : List ℕ) → IsOpen s p fd f → Kept l (changed s (SetObject f.description.object (record (open_object s f) { attr = attr; bytes = bytes })))
+  kept_rewritten : (fd : ℕ) (f : Opened) (attr : Attr) (bytes : List ℕ) → IsOpen s p fd f → Kept l (apply_change s (SetObject f.description.object (record (open_object s f) { attr = attr; bytes = bytes })))
   kept_rewritten fd f attr bytes open_is =
       let there = open_object_is s valid p fd f open_is in
       kept_same f.description.object (open_object s f) _ there refl (kept.objects f.description.object (open_object s f) there)
 
-  kept_emptied : (id : Oid) (flags : OpenFlags) (place : Place) (attr : Attr) (may : MayOpen (crosses l) s who p id flags place) → may.target.object.kind ≡ kind.File → Kept l (changed_by s (SetObject id (record (object_at s id) { attr = attr; bytes = [] }) ∷ opening s who p id flags))
+  kept_emptied : (id : Oid) (flags : OpenFlags) (place : Place) (attr : Attr) (may : MayOpen (crosses l) s who p id flags place) → may.target.object.kind ≡ kind.File → Kept l (apply_changes s (SetObject id (record (object_at s id) { attr = attr; bytes = [] }) ∷ description_creation s who p id flags))
   kept_emptied id flags place attr may file =
       let old : Object = may.target.object in
       let new : Object = record (object_at s id) { attr = attr; bytes = [] } in
       let at : object_at s id ≡ old = get_or-found s.objects id (stub_object s.top) old may.target.is in
       let no_stream : is_stream new.kind ≡ false = ap (λ (o : Object). is_stream o.kind) at ∙ ap is_stream file in
-      kept_opened (changed s (SetObject id new)) (kept_same id old new may.target.is (ap (λ (o : Object). o.kind) at) (kept.objects id old may.target.is ∙ ap (λ (o : Object). low l o.label) (sym at)))
+      kept_opened (apply_change s (SetObject id new)) (kept_same id old new may.target.is (ap (λ (o : Object). o.kind) at) (kept.objects id old may.target.is ∙ ap (λ (o : Object). low l o.label) (sym at)))
       id flags (opening_low l s kept who p id flags place may)
       (λ o e stream. absurd (true≢false (sym stream ∙ ap (λ (x : Object). is_stream x.kind) (some_same o new (sym e ∙ get-insert_same oid_cmp_total s.objects id new)) ∙ no_stream)))
 
-  kept_piped : Kept l (changed_by s (pipe_creation s who p))
+  kept_piped : Kept l (apply_changes s (pipe_creation s who p))
   kept_piped =
       let o : Object = new_pipe p in
       let new : Oid = next_object s p.label in
       let first : Did = next_description s p.label in
       let second : Did = second_description s p in
-      let made_t : State = changed_by s (drawing s p.label o ++ DrawDescription p.label (drawn s.description_numbers p.label + 2) ∷ []) in
-      let made_is : Kept l made_t = kept_with l (changed s (SetObject new o)) (kept_new new o refl (next_absent s valid p.label)) s.entries _ s.process_numbers _ in
-      let half_is : Kept l (changed made_t (SetDescription first (on_pipe (next_object s p.label) true))) = kept_description l made_t made_is first (on_pipe (next_object s p.label) true) (λ h. h) (λ x e stream. refl) in
-      let whole_is : Kept l (changed (changed made_t (SetDescription first (on_pipe (next_object s p.label) true))) (SetDescription second (on_pipe (next_object s p.label) false))) = kept_description l _ half_is second (on_pipe (next_object s p.label) false) (λ h. h) (λ x e stream. refl) in
+      let made_t : State = apply_changes s (object_addition s p.label o ++ DrawDescription p.label (last_drawn s.description_numbers p.label + 2) ∷ []) in
+      let made_is : Kept l made_t = kept_with l (apply_change s (SetObject new o)) (kept_new new o refl (next_absent s valid p.label)) s.entries _ s.process_numbers _ in
+      let half_is : Kept l (apply_change made_t (SetDescription first (on_pipe (next_object s p.label) true))) = kept_description l made_t made_is first (on_pipe (next_object s p.label) true) (λ h. h) (λ x e stream. refl) in
+      let whole_is : Kept l (apply_change (apply_change made_t (SetDescription first (on_pipe (next_object s p.label) true))) (SetDescription second (on_pipe (next_object s p.label) false))) = kept_description l _ half_is second (on_pipe (next_object s p.label) false) (λ h. h) (λ x e stream. refl) in
       kept_fds _ whole_is _ (one_beside (with_descriptor p first).fds (one_beside p.fds own.fds first (sym own.label)) second (sym own.label))
 
-  kept_forked : Kept l (changed_by s (DrawProcess p.label (drawn s.process_numbers p.label + 1) ∷ SetProcess (next_process s p.label) (child_of who p) ∷ []))
+  kept_forked : Kept l (apply_changes s (DrawProcess p.label (last_drawn s.process_numbers p.label + 1) ∷ SetProcess (next_process s p.label) (child_of who p) ∷ []))
   kept_forked =
-      kept_process l (changed s (DrawProcess p.label (drawn s.process_numbers p.label + 1))) (kept_with l s kept s.entries s.object_numbers _ s.description_numbers) (next_process s p.label) (child_of who p)
+      kept_process l (apply_change s (DrawProcess p.label (last_drawn s.process_numbers p.label + 1))) (kept_with l s kept s.entries s.object_numbers _ s.description_numbers) (next_process s p.label) (child_of who p)
       (record {
         label = refl;
         parent = λ q e. ap (λ (z : Pid). low l z.label) (some_same q who (sym e)) ∙ own.label;
@@ -161,7 +161,7 @@ module _ (l : Label) (s : State) (kept : Kept l s) (valid : IsValid s) (who : Pi
       })
 
   -- a kept state stays kept
-  pub kept_cases : (ArgsValid : Type 0) → EffectCases (crosses l) s who p ArgsValid (λ cs. Kept l (changed_by s cs))
+  pub kept_cases : (ArgsValid : Type 0) → EffectCases (crosses l) s who p ArgsValid (λ cs. Kept l (apply_changes s cs))
   kept_cases ArgsValid = record {
     none = kept;
     set_caller = λ ids caps umask audited groups within args. kept_process l s kept who _ (record { label = own.label; parent = own.parent; ended = own.ended; fds = own.fds; cwd = own.cwd });
@@ -187,10 +187,10 @@ module _ (l : Label) (s : State) (kept : Kept l s) (valid : IsValid s) (who : Pi
     open_existing = λ id flags place may.
         kept_opened s kept id flags (opening_low l s kept who p id flags place may) (λ o e. opening_side l s kept who p id flags place may o (some_same may.target.object o (sym may.target.is ∙ e)));
     open_emptied = λ id flags place attr may writes file mode. kept_emptied id flags place attr may file;
-    open_made = λ dir name o place flags making file room. kept_opened (changed_by s (creation s p.label dir name o)) (kept_made ArgsValid dir name o place making) (next_object s p.label) flags (λ h. h) (λ x e stream. refl);
+    open_made = λ dir name o place flags making file room. kept_opened (apply_changes s (creation s p.label dir name o)) (kept_made ArgsValid dir name o place making) (next_object s p.label) flags (λ h. h) (λ x e stream. refl);
     pipe = λ left free numbers. kept_piped;
     close = λ fd.
-        kept_closed l s kept valid (has_fd who fd) (changed s (SetProcess who (without_fd p fd)))
+        kept_closed l s kept valid (has_fd who fd) (apply_change s (SetProcess who (without_fd p fd)))
         (kept_fds s kept _ (each-remove nat_cmp_total nat_cmp-IsAntisymmetric (λ (n : ℕ) (did : Did). low l did.label ≡ low l who.label) p.fds own.fds fd)) refl;
     attributes = λ id o attr place at written mode caps. kept_same id o (record o { attr = attr }) at refl (kept.objects id o at);
     relabel = λ id o new place at written relabelling args.

@@ -23,10 +23,10 @@ use Rattle.kern_model.specs.Row.{Row, Subject, CheckOutcome, judge, exercise_wit
 use Rattle.kern_model.specs.Rules.{cap_of, denial_of}
 use Rattle.kern_model.specs.Run.{CallRecord, run, state_after_run}
 use Rattle.kern_model.specs.State.{State, Process}
-use Rattle.kern_model.specs.Step.{step, step_by, settled, subject, state_after, own_of}
+use Rattle.kern_model.specs.Step.{step, step_by, step_result, subject, state_after, own_of}
 use Rattle.kern_model.specs.Table.{row}
 use Rattle.iso_laws.specs.Laws.{CapsByRecords}
-use Rattle.iso_laws.proofs.Part.{bound-changed}
+use Rattle.iso_laws.proofs.Part.{bound-apply_change}
 use Rattle.iso_laws.proofs.Rows.{EachCommit, used_preserves, end_satisfies}
 use Rattle.iso_laws.proofs.Steps.{fixed_after}
 use Rattle.iso_laws.proofs.Booting.{fixed_booted}
@@ -73,8 +73,8 @@ end_reports s who p name f has a r h =
 
 module _ (s : State) (who : Pid) (c : Call) (f : Pid → CapState) (has : HaveCaps s f) where
   settled_reports : (p : Process) → map.get s.procs who ≡ Some p
-      → HaveCaps (settled s who p (name_of c) (judge (subject who p) [] (row s who p c))).state
-      (caps_after s.bound f (settled s who p (name_of c) (judge (subject who p) [] (row s who p c))).recs)
+      → HaveCaps (step_result s who p (name_of c) (judge (subject who p) [] (row s who p c))).state
+      (caps_after s.bound f (step_result s who p (name_of c) (judge (subject who p) [] (row s who p c))).recs)
   settled_reports p is =
       let j : CheckOutcome = judge (subject who p) [] (row s who p c) in
       let own : List Rec = own_of who p (name_of c) j.end in
@@ -104,7 +104,7 @@ have_after_run (i ∷ is) s bound f same has =
     let later : List Rec = flat_map (λ (p : CallRecord). p.recs) (run next is) in
     have_same (state_after_run next is) (caps_after bound (caps_after bound f recs) later) (caps_after bound f (recs ++ later))
     (λ q. sym (caps_after-append bound f recs later q))
-    (have_after_run is next bound (caps_after bound f recs) (fixed_after s i.who i.call (λ t. t.bound) bound-changed ∙ same)
+    (have_after_run is next bound (caps_after bound f recs) (fixed_after s i.who i.call (λ t. t.bound) bound-apply_change ∙ same)
     (have_same next (caps_after s.bound f recs) (caps_after bound f recs) (λ q. ap (λ b. caps_after b f recs q) same) (have_after_step s i.who i.call f has)))
 
 pub caps_by_records : CapsByRecords
@@ -112,4 +112,4 @@ caps_by_records w items =
     let later : List Rec = flat_map (λ (p : CallRecord). p.recs) (run (boot w) items) in
     have_same (state_after_run (boot w) items) (caps_after w.bound (caps_of w.bound (boot_recs w)) later) (caps_of w.bound (all_recs w items))
     (λ q. sym (caps_after-append w.bound (λ _. no_flags) (boot_recs w) later q))
-    (have_after_run items (boot w) w.bound (caps_of w.bound (boot_recs w)) (fixed_booted (λ s. s.bound) bound-changed w) (have_booted w))
+    (have_after_run items (boot w) w.bound (caps_of w.bound (boot_recs w)) (fixed_booted (λ s. s.bound) bound-apply_change w) (have_booted w))

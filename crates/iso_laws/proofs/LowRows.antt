@@ -13,7 +13,7 @@ use Rattle.kern_model.specs.declared.checks.Place.TheVariants.{First, Handle}
 use Rattle.kern_model.specs.declared.objects.Object.{Object}
 use Rattle.kern_model.specs.declared.records.Rec.{Rec}
 use Rattle.kern_model.specs.AttrRows.{on_open_object}
-use Rattle.kern_model.specs.Descriptors.{Opened, opened}
+use Rattle.kern_model.specs.Descriptors.{Opened, open_description}
 use Rattle.kern_model.specs.FileRows.{or_not_open, on_descriptor}
 use Rattle.kern_model.specs.Rules.{mac_read_of, mac_write_of}
 use Rattle.kern_model.specs.Row.{Row, Need, Commit}
@@ -76,7 +76,7 @@ module _ (l : Label) (s : State) (kept : Kept l s) (valid : IsValid s) (who : Pi
   pub low_descriptor : (fd : ℕ) (k k' : Opened → Row) → ((f : Opened) → IsOpen s p fd f → low l f.did.label ≡ true → low l f.description.object.label ≡ true → SameInPart l s who p (k f) (k' f)) → SameInPart l s who p (on_descriptor s p fd k) (on_descriptor part_s p fd k')
   low_descriptor fd k k' h =
       subst (λ w. SameInPart l s who p (on_descriptor s p fd k) (or_not_open w k')) (sym (opened_low l s kept who p is is_low fd))
-      (in_part_open l s who p (opened s p fd) k k' (λ f e. let open_is = is_open s p fd f e in h f open_is (open_did_low l s kept who p is is_low fd f open_is) (open_object_low l s kept who p is is_low fd f e)))
+      (in_part_open l s who p (open_description s p fd) k k' (λ f e. let open_is = is_open s p fd f e in h f open_is (open_did_low l s kept who p is is_low fd f open_is) (open_object_low l s kept who p is is_low fd f e)))
 
   -- the row of a call that reads the object of a descriptor, and depends on that alone
   pub low_open_object_by : (fd : ℕ) (r : Object → Row) → ((o : Object) → EachCommit (AreVisible l s) (r o))

@@ -15,9 +15,10 @@ use Rattle.kern_model.specs.declared.objects.Object.{Object}
 use Rattle.kern_model.specs.Keys.{Spot}
 use Rattle.kern_model.proofs.KeyLaws.{oid_cmp_total, oid_cmp_exact, pid_cmp_total, pid_cmp_exact, did_cmp_total, did_cmp_exact, spot_cmp_total, spot_cmp_exact}
 use Rattle.kern_model.specs.Maps.{select, where_key}
-use Rattle.kern_model.specs.State.{State, Process, Description, Change, SetObject, SetEntry, DropEntry, SetProcess, DropProcess, SetDescription, DropDescription, DrawObject, DrawProcess, DrawDescription, changed, changed_by, stub}
+use Rattle.kern_model.specs.State.{State, Process, Description, Change, SetObject, SetEntry, DropEntry, SetProcess, DropProcess, SetDescription, DropDescription, DrawObject, DrawProcess, DrawDescription, apply_change, apply_changes, stub}
 use Rattle.kern_model.specs.Isolation.{low, part, shows, label_in, Kept}
 use Rattle.kern_model.proofs.MapLemmas.{select_agree, select-insert_kept, select-insert_dropped, select-remove_kept, select-remove_dropped}
+use Rattle.kern_model.proofs.StateLemmas.{apply_changes-append}
 
 -- where an entry for an object leads in the part
 abbrev pub shown_oid : Label → Label → Oid → Oid
@@ -122,56 +123,52 @@ module _ {K X : Type 0} {R : K → K → Ordering} (total : IsTotalOrder R) (exa
       ] refl
 
 -- what a change does to the part by numbers
-pub part_by_number-changed : (l : Label) (s : State) (c : Change) → part_by_number l (changed s c) ≡ changed_by (part_by_number l s) (part_change l s.top c)
+pub part_by_number-apply_change : (l : Label) (s : State) (c : Change) → part_by_number l (apply_change s c) ≡ apply_changes (part_by_number l s) (part_change l s.top c)
 unfolding part_by_number
-part_by_number-changed l s (SetObject id o) =
-    insert_in_part oid_cmp_total oid_cmp_exact (low_oid l) as_is (λ m. record (part_by_number l s) { objects = m }) (changed_by (part_by_number l s)) (SetObject id o) s.objects id refl o refl
-part_by_number-changed l s (SetEntry spot id) =
-    insert_in_part spot_cmp_total spot_cmp_exact (low_spot l) (shown_oid l s.top) (λ m. record (part_by_number l s) { entries = m }) (changed_by (part_by_number l s)) (SetEntry spot (shown_oid l s.top id)) s.entries spot refl id refl
-part_by_number-changed l s (DropEntry spot) =
-    remove_in_part spot_cmp_total spot_cmp_exact (low_spot l) (shown_oid l s.top) (λ m. record (part_by_number l s) { entries = m }) (changed_by (part_by_number l s)) (DropEntry spot) s.entries spot refl refl
-part_by_number-changed l s (SetProcess who p) =
-    insert_in_part pid_cmp_total pid_cmp_exact (low_pid l) as_is (λ m. record (part_by_number l s) { procs = m }) (changed_by (part_by_number l s)) (SetProcess who p) s.procs who refl p refl
-part_by_number-changed l s (DropProcess who) =
-    remove_in_part pid_cmp_total pid_cmp_exact (low_pid l) as_is (λ m. record (part_by_number l s) { procs = m }) (changed_by (part_by_number l s)) (DropProcess who) s.procs who refl refl
-part_by_number-changed l s (SetDescription did d) =
-    insert_in_part did_cmp_total did_cmp_exact (low_did l) as_is (λ m. record (part_by_number l s) { descriptions = m }) (changed_by (part_by_number l s)) (SetDescription did d) s.descriptions did refl d refl
-part_by_number-changed l s (DropDescription did) =
-    remove_in_part did_cmp_total did_cmp_exact (low_did l) as_is (λ m. record (part_by_number l s) { descriptions = m }) (changed_by (part_by_number l s)) (DropDescription did) s.descriptions did refl refl
-part_by_number-changed l s (DrawObject label n) =
-    insert_in_part label_cmp_total label_cmp_exact (low l) as_is (λ m. record (part_by_number l s) { object_numbers = m }) (changed_by (part_by_number l s)) (DrawObject label n) s.object_numbers label refl n refl
-part_by_number-changed l s (DrawProcess label n) =
-    insert_in_part label_cmp_total label_cmp_exact (low l) as_is (λ m. record (part_by_number l s) { process_numbers = m }) (changed_by (part_by_number l s)) (DrawProcess label n) s.process_numbers label refl n refl
-part_by_number-changed l s (DrawDescription label n) =
-    insert_in_part label_cmp_total label_cmp_exact (low l) as_is (λ m. record (part_by_number l s) { description_numbers = m }) (changed_by (part_by_number l s)) (DrawDescription label n) s.description_numbers label refl n refl
+part_by_number-apply_change l s (SetObject id o) =
+    insert_in_part oid_cmp_total oid_cmp_exact (low_oid l) as_is (λ m. record (part_by_number l s) { objects = m }) (apply_changes (part_by_number l s)) (SetObject id o) s.objects id refl o refl
+part_by_number-apply_change l s (SetEntry spot id) =
+    insert_in_part spot_cmp_total spot_cmp_exact (low_spot l) (shown_oid l s.top) (λ m. record (part_by_number l s) { entries = m }) (apply_changes (part_by_number l s)) (SetEntry spot (shown_oid l s.top id)) s.entries spot refl id refl
+part_by_number-apply_change l s (DropEntry spot) =
+    remove_in_part spot_cmp_total spot_cmp_exact (low_spot l) (shown_oid l s.top) (λ m. record (part_by_number l s) { entries = m }) (apply_changes (part_by_number l s)) (DropEntry spot) s.entries spot refl refl
+part_by_number-apply_change l s (SetProcess who p) =
+    insert_in_part pid_cmp_total pid_cmp_exact (low_pid l) as_is (λ m. record (part_by_number l s) { procs = m }) (apply_changes (part_by_number l s)) (SetProcess who p) s.procs who refl p refl
+part_by_number-apply_change l s (DropProcess who) =
+    remove_in_part pid_cmp_total pid_cmp_exact (low_pid l) as_is (λ m. record (part_by_number l s) { procs = m }) (apply_changes (part_by_number l s)) (DropProcess who) s.procs who refl refl
+part_by_number-apply_change l s (SetDescription did d) =
+    insert_in_part did_cmp_total did_cmp_exact (low_did l) as_is (λ m. record (part_by_number l s) { descriptions = m }) (apply_changes (part_by_number l s)) (SetDescription did d) s.descriptions did refl d refl
+part_by_number-apply_change l s (DropDescription did) =
+    remove_in_part did_cmp_total did_cmp_exact (low_did l) as_is (λ m. record (part_by_number l s) { descriptions = m }) (apply_changes (part_by_number l s)) (DropDescription did) s.descriptions did refl refl
+part_by_number-apply_change l s (DrawObject label n) =
+    insert_in_part label_cmp_total label_cmp_exact (low l) as_is (λ m. record (part_by_number l s) { object_numbers = m }) (apply_changes (part_by_number l s)) (DrawObject label n) s.object_numbers label refl n refl
+part_by_number-apply_change l s (DrawProcess label n) =
+    insert_in_part label_cmp_total label_cmp_exact (low l) as_is (λ m. record (part_by_number l s) { process_numbers = m }) (apply_changes (part_by_number l s)) (DrawProcess label n) s.process_numbers label refl n refl
+part_by_number-apply_change l s (DrawDescription label n) =
+    insert_in_part label_cmp_total label_cmp_exact (low l) as_is (λ m. record (part_by_number l s) { description_numbers = m }) (apply_changes (part_by_number l s)) (DrawDescription label n) s.description_numbers label refl n refl
 
 -- no change alters top
-pub top-changed : (s : State) (c : Change) → (changed s c).top ≡ s.top
-top-changed s (SetObject id o) = refl
-top-changed s c = refl
+pub top-apply_change : (s : State) (c : Change) → (apply_change s c).top ≡ s.top
+top-apply_change s (SetObject id o) = refl
+top-apply_change s c = refl
 
 -- no change alters the bound
-pub bound-changed : (s : State) (c : Change) → (changed s c).bound ≡ s.bound
-bound-changed s (SetObject id o) = refl
-bound-changed s c = refl
+pub bound-apply_change : (s : State) (c : Change) → (apply_change s c).bound ≡ s.bound
+bound-apply_change s (SetObject id o) = refl
+bound-apply_change s c = refl
 
 -- what no change alters stays the same over a list of changes
-pub fixed_by : {X : Type 0} (of : State → X) → ((s : State) (c : Change) → of (changed s c) ≡ of s) → (s : State) (cs : List Change) → of (changed_by s cs) ≡ of s
+pub fixed_by : {X : Type 0} (of : State → X) → ((s : State) (c : Change) → of (apply_change s c) ≡ of s) → (s : State) (cs : List Change) → of (apply_changes s cs) ≡ of s
 fixed_by of fixed s [] = refl
-fixed_by of fixed s (c ∷ cs) = fixed_by of fixed (changed s c) cs ∙ fixed s c
-
-pub changed_by-append : (s : State) (cs ds : List Change) → changed_by s (cs ++ ds) ≡ changed_by (changed_by s cs) ds
-changed_by-append s [] ds = refl
-changed_by-append s (c ∷ cs) ds = changed_by-append (changed s c) cs ds
+fixed_by of fixed s (c ∷ cs) = fixed_by of fixed (apply_change s c) cs ∙ fixed s c
 
 -- what a list of changes does to the part by numbers
-pub part_by_number-changed_by : (l : Label) (s : State) (cs : List Change) → part_by_number l (changed_by s cs) ≡ changed_by (part_by_number l s) (part_changes l s.top cs)
-part_by_number-changed_by l s [] = refl
-part_by_number-changed_by l s (c ∷ cs) =
-    part_by_number-changed_by l (changed s c) cs
-    ∙ ap (λ top. changed_by (part_by_number l (changed s c)) (part_changes l top cs)) (top-changed s c)
-    ∙ ap (λ t. changed_by t (part_changes l s.top cs)) (part_by_number-changed l s c)
-    ∙ sym (changed_by-append (part_by_number l s) (part_change l s.top c) (part_changes l s.top cs))
+pub part_by_number-apply_changes : (l : Label) (s : State) (cs : List Change) → part_by_number l (apply_changes s cs) ≡ apply_changes (part_by_number l s) (part_changes l s.top cs)
+part_by_number-apply_changes l s [] = refl
+part_by_number-apply_changes l s (c ∷ cs) =
+    part_by_number-apply_changes l (apply_change s c) cs
+    ∙ ap (λ top. apply_changes (part_by_number l (apply_change s c)) (part_changes l top cs)) (top-apply_change s c)
+    ∙ ap (λ t. apply_changes t (part_changes l s.top cs)) (part_by_number-apply_change l s c)
+    ∙ sym (apply_changes-append (part_by_number l s) (part_change l s.top c) (part_changes l s.top cs))
 
 shows_low : (l : Label) (s : State) → Kept l s → (id : Oid) → shows l s id ≡ low l id.label
 shows_low l s kept id =

@@ -26,9 +26,9 @@ use Rattle.kern_model.specs.declared.calls.Errno.TheVariants as errno
 use Rattle.kern_model.specs.declared.records.Rec.{Rec}
 use Rattle.kern_model.specs.Maps.{get_or}
 use Rattle.kern_model.proofs.KeyLaws.{oid_cmp_total, oid_cmp_exact, pid_cmp_total, pid_cmp_exact, did_cmp_total, did_cmp_exact, spot_cmp_total, spot_cmp_exact}
-use Rattle.kern_model.specs.Descriptors.{Opened, opened}
+use Rattle.kern_model.specs.Descriptors.{Opened, open_description}
 use Rattle.kern_model.specs.Kinds.{is_dir}
-use Rattle.kern_model.specs.State.{State, Process, Description, drawn, object_at, look, stub, stub_object, root}
+use Rattle.kern_model.specs.State.{State, Process, Description, last_drawn, object_at, look, stub, stub_object, root}
 use Rattle.kern_model.specs.Rules.{cap_of, same_label, mode_allows, of_object, mac_read, mac_write, dac_search, mac_read_of, mac_write_of}
 use Rattle.kern_model.specs.Row.{Row, Need, Refuse, Subject, verdict_of, is_denied, exercises_after, exercise_with, may}
 use Rattle.kern_model.specs.Walk.{Found, Start, Entry, walk_from, walk, reach, start_of, enter, or_missing, to_object}
@@ -161,16 +161,16 @@ module _ (l : Label) (s : State) where
   get_low id h = get-select_kept oid_cmp_total oid_cmp_exact (low_oid l) as_is s.objects id h ∙ option_map_as_is _
 
   -- the last number drawn at a Low label is the same in the part
-  pub drawn_low : (label : Label) → low l label ≡ true → drawn (part_by_number l s).object_numbers label ≡ drawn s.object_numbers label
+  pub drawn_low : (label : Label) → low l label ≡ true → last_drawn (part_by_number l s).object_numbers label ≡ last_drawn s.object_numbers label
   unfolding part_by_number
   drawn_low label h = get_or-same _ _ label 0 (get-select_kept label_cmp_total label_cmp_exact (low l) as_is s.object_numbers label h ∙ option_map_as_is _)
 
-  pub descriptions_drawn_low : (label : Label) → low l label ≡ true → drawn (part_by_number l s).description_numbers label ≡ drawn s.description_numbers label
+  pub descriptions_drawn_low : (label : Label) → low l label ≡ true → last_drawn (part_by_number l s).description_numbers label ≡ last_drawn s.description_numbers label
   unfolding part_by_number
   descriptions_drawn_low label h =
       get_or-same _ _ label 0 (get-select_kept label_cmp_total label_cmp_exact (low l) as_is s.description_numbers label h ∙ option_map_as_is _)
 
-  pub processes_drawn_low : (label : Label) → low l label ≡ true → drawn (part_by_number l s).process_numbers label ≡ drawn s.process_numbers label
+  pub processes_drawn_low : (label : Label) → low l label ≡ true → last_drawn (part_by_number l s).process_numbers label ≡ last_drawn s.process_numbers label
   unfolding part_by_number
   processes_drawn_low label h = get_or-same _ _ label 0 (get-select_kept label_cmp_total label_cmp_exact (low l) as_is s.process_numbers label h ∙ option_map_as_is _)
 
@@ -369,8 +369,8 @@ described : (s : State) (p : Process) (fd : ℕ) (did : Did) (f : Opened) (w : O
 described s p fd did f None at is e = absurd (never_some None f refl e)
 described s p fd did f (Some d) at is e = subst (IsOpen s p fd) (some_same (record { did = did; description = d }) f e) (record { fd_is = at; is = is })
 
-pub is_open : (s : State) (p : Process) (fd : ℕ) (f : Opened) → opened s p fd ≡ Some f → IsOpen s p fd f
-unfolding opened
+pub is_open : (s : State) (p : Process) (fd : ℕ) (f : Opened) → open_description s p fd ≡ Some f → IsOpen s p fd f
+unfolding open_description
 is_open s p fd f =
     elim (map.get p.fds fd) as (λ w. map.get p.fds fd ≡ w
     → option_and_then (λ did. option_map (λ d. record { did = did; description = d }) (map.get s.descriptions did)) w ≡ Some f → IsOpen s p fd f) [
@@ -383,8 +383,8 @@ module _ (l : Label) (s : State) (kept : Kept l s) (who : Pid) (p : Process) (is
   fd_low did at = kept.fds who p fd did is at ∙ kept.procs who p is ∙ is_low
 
   -- a descriptor of a Low process refers to the same in the part
-  pub opened_low : opened (part_by_number l s) p fd ≡ opened s p fd
-  unfolding opened
+  pub opened_low : open_description (part_by_number l s) p fd ≡ open_description s p fd
+  unfolding open_description
   opened_low =
       let following : State → Did → Option Opened = λ t did. option_map (λ d. record { did = did; description = d }) (map.get t.descriptions did) in
       elim (map.get p.fds fd) as (λ w. map.get p.fds fd ≡ w → option_and_then (following (part_by_number l s)) w ≡ option_and_then (following s) w) [
@@ -397,7 +397,7 @@ module _ (l : Label) (s : State) (kept : Kept l s) (who : Pid) (p : Process) (is
   open_did_low f held = fd_low f.did held.fd_is
 
   -- a descriptor of a Low process refers to a Low object
-  pub open_object_low : (f : Opened) → opened s p fd ≡ Some f → low l f.description.object.label ≡ true
+  pub open_object_low : (f : Opened) → open_description s p fd ≡ Some f → low l f.description.object.label ≡ true
   open_object_low f e = let held = is_open s p fd f e in kept.descriptions f.did f.description held.is (fd_low f.did held.fd_is)
 
 -- what an open descriptor refers to is there, and is no directory

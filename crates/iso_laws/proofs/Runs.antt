@@ -8,8 +8,8 @@ use Rattle.kern_model.specs.declared.world.ScriptItem.{ScriptItem}
 use Rattle.kern_model.specs.Arguments.{has_names, is_call, is_item, is_script}
 use Rattle.kern_model.specs.State.{State}
 use Rattle.kern_model.specs.Step.{StepResult, step}
-use Rattle.kern_model.specs.Run.{CallRecord, played, run, state_after_run}
-use Rattle.kern_model.specs.Isolation.{low, part, part_script, crossing, Answered, answered, answers, all_answers, up_to, Kept}
+use Rattle.kern_model.specs.Run.{CallRecord, item_record, run, state_after_run}
+use Rattle.kern_model.specs.Isolation.{low, part, part_script, any_crosses, Answered, answer_of_call, answers, all_answers, up_to, Kept}
 use Rattle.kern_model.specs.Valid.{IsValid}
 use Rattle.kern_model.specs.Prefixes.{IsPrefix}
 use Rattle.iso_laws.proofs.PrefixLemmas.{prefix_through}
@@ -37,7 +37,7 @@ module _ (l : Label) where
 
   answers-append : (ps qs : List CallRecord) → answers l (ps ++ qs) ≡ answers l ps ++ answers l qs
   answers-append [] qs = refl
-  answers-append (p ∷ ps) qs = ap (λ xs. cond (low l p.who.label) (answered p ∷ xs) xs) (answers-append ps qs) ∙ put (low l p.who.label) (answered p) (answers l ps) (answers l qs)
+  answers-append (p ∷ ps) qs = ap (λ xs. cond (low l p.who.label) (answer_of_call p ∷ xs) xs) (answers-append ps qs) ∙ put (low l p.who.label) (answer_of_call p) (answers l ps) (answers l qs)
 
   -- the answers to the first calls are a prefix of the answers to all
   pub answers_of_first : (m : ℕ) (ps : List CallRecord) → IsPrefix (answers l (take m ps)) (answers l ps)
@@ -50,18 +50,18 @@ module _ (l : Label) where
     pub all : up_to l ps ≡ ps → rest ≡ []
 
   -- a step that crosses nothing adds its answer to both
-  alone_more : (p : CallRecord) (b : Bool) (ps : List CallRecord) (whole : List Answered) → low l p.who.label ≡ b → crossing l p.recs ≡ false → AnswersAlone ps whole → AnswersAlone (p ∷ ps) (cond b (answered p ∷ whole) whole)
+  alone_more : (p : CallRecord) (b : Bool) (ps : List CallRecord) (whole : List Answered) → low l p.who.label ≡ b → any_crosses l p.recs ≡ false → AnswersAlone ps whole → AnswersAlone (p ∷ ps) (cond b (answer_of_call p ∷ whole) whole)
   alone_more p b ps whole is inside alone = record {
     rest = alone.rest;
     whole_is =
-        ap (λ w. cond b (answered p ∷ w) w) alone.whole_is
-        ∙ put b (answered p) (answers l (up_to l ps)) alone.rest
-        ∙ ap (λ t. cond t (answered p ∷ answers l (up_to l ps)) (answers l (up_to l ps)) ++ alone.rest) (sym is)
+        ap (λ w. cond b (answer_of_call p ∷ w) w) alone.whole_is
+        ∙ put b (answer_of_call p) (answers l (up_to l ps)) alone.rest
+        ∙ ap (λ t. cond t (answer_of_call p ∷ answers l (up_to l ps)) (answers l (up_to l ps)) ++ alone.rest) (sym is)
         ∙ ap (λ t. answers l (cond t [] (p ∷ up_to l ps)) ++ alone.rest) (sym inside);
     all = λ e. alone.all (let same : p ∷ up_to l ps ≡ p ∷ ps = ap (λ t. cond t [] (p ∷ up_to l ps)) (sym inside) ∙ e in cc);
   }
 
-  alone_none : (p : CallRecord) (ps : List CallRecord) (whole : List Answered) → crossing l p.recs ≡ true → AnswersAlone (p ∷ ps) whole
+  alone_none : (p : CallRecord) (ps : List CallRecord) (whole : List Answered) → any_crosses l p.recs ≡ true → AnswersAlone (p ∷ ps) whole
   alone_none p ps whole crosses = record {
     rest = whole;
     whole_is = ap (λ t. answers l (cond t [] (p ∷ up_to l ps)) ++ whole) (sym crosses);
@@ -74,18 +74,18 @@ module _ (l : Label) where
   answers_alone (i ∷ is) s args valid kept =
       let first = first_of_script s i is args in
       let next : State = (step s i.who i.call).state in
-      elim (crossing l (step s i.who i.call).recs) as (λ b. crossing l (step s i.who i.call).recs ≡ b → AnswersAlone (run s (i ∷ is)) (all_answers (run (part l s) (part_script l (i ∷ is))))) [
-        | true ↦ λ crosses. alone_none (played s i) (run next is) _ crosses
+      elim (any_crosses l (step s i.who i.call).recs) as (λ b. any_crosses l (step s i.who i.call).recs ≡ b → AnswersAlone (run s (i ∷ is)) (all_answers (run (part l s) (part_script l (i ∷ is))))) [
+        | true ↦ λ crosses. alone_none (item_record s i) (run next is) _ crosses
         | false ↦ λ inside.
             let rest : AnswersAlone (run next is) (all_answers (run (part l next) (part_script l is))) = answers_alone is next first.later_args (valid_step s i.who i.call first.args first.names valid) (kept_step l s i.who i.call first.args valid kept inside) in
             elim (low l i.who.label) as (λ b. low l i.who.label ≡ b → AnswersAlone (run s (i ∷ is)) (all_answers (run (part l s) (cond b (i ∷ part_script l is) (part_script l is))))) [
               | true ↦ λ is_low.
                   let e = low_step l s i.who i.call (record { arguments = first.args; valid = valid; kept = kept; is_low = is_low; inside = inside }) in
                   subst (λ (o : StepResult). AnswersAlone (run s (i ∷ is)) (record { who = i.who; head = i.head; reply = o.reply } ∷ all_answers (run o.state (part_script l is)))) (sym e)
-                  (alone_more (played s i) true (run next is) _ is_low inside rest)
+                  (alone_more (item_record s i) true (run next is) _ is_low inside rest)
               | false ↦ λ high.
                   subst (λ t. AnswersAlone (run s (i ∷ is)) (all_answers (run t (part_script l is)))) (other_step l s i.who i.call first.args valid kept high inside)
-                  (alone_more (played s i) false (run next is) _ high inside rest)
+                  (alone_more (item_record s i) false (run next is) _ high inside rest)
             ] refl
       ] refl
 
@@ -102,8 +102,8 @@ module _ (l : Label) where
       ap (answers l) (sym e) ∙ sym (append-nil _) ∙ ap (λ xs. answers l (up_to l (run s items)) ++ xs) (sym (alone.all e)) ∙ sym alone.whole_is
 
   -- the first call of a run that crosses nothing, and the others
-  inside_first : (p : CallRecord) (ps : List CallRecord) → up_to l (p ∷ ps) ≡ p ∷ ps → (crossing l p.recs ≡ false) × (up_to l ps ≡ ps)
-  inside_first p ps e = elim (crossing l p.recs) as (λ b. cond b [] (p ∷ up_to l ps) ≡ p ∷ ps → (b ≡ false) × (up_to l ps ≡ ps)) [
+  inside_first : (p : CallRecord) (ps : List CallRecord) → up_to l (p ∷ ps) ≡ p ∷ ps → (any_crosses l p.recs ≡ false) × (up_to l ps ≡ ps)
+  inside_first p ps e = elim (any_crosses l p.recs) as (λ b. cond b [] (p ∷ up_to l ps) ≡ p ∷ ps → (b ≡ false) × (up_to l ps ≡ ps)) [
     | true ↦ λ e. absurd (cc)
     | false ↦ λ e. (refl, cc)
   ] e
@@ -115,7 +115,7 @@ module _ (l : Label) where
     pub inside : up_to l ps ≡ ps
 
   -- one call more, which crosses nothing
-  inside_more : (last alone : State) (p : CallRecord) (ps : List CallRecord) → crossing l p.recs ≡ false → EndsAlone last alone ps → EndsAlone last alone (p ∷ ps)
+  inside_more : (last alone : State) (p : CallRecord) (ps : List CallRecord) → any_crosses l p.recs ≡ false → EndsAlone last alone ps → EndsAlone last alone (p ∷ ps)
   inside_more last alone p ps inside ends = record {
     kept = ends.kept;
     same = ends.same;
@@ -129,14 +129,14 @@ module _ (l : Label) where
   ends_alone (i ∷ is) s args valid kept e =
       let first = first_of_script s i is args in
       let next : State = (step s i.who i.call).state in
-      let inside = inside_first (played s i) (run next is) e in
+      let inside = inside_first (item_record s i) (run next is) e in
       let rest : EndsAlone (state_after_run next is) (state_after_run (part l next) (part_script l is)) (run (part l next) (part_script l is)) =
       ends_alone is next first.later_args (valid_step s i.who i.call first.args first.names valid) (kept_step l s i.who i.call first.args valid kept inside.0) inside.1 in
       elim (low l i.who.label) as (λ b. low l i.who.label ≡ b → EndsAlone (state_after_run next is) (state_after_run (part l s) (cond b (i ∷ part_script l is) (part_script l is))) (run (part l s) (cond b (i ∷ part_script l is) (part_script l is)))) [
         | true ↦ λ is_low.
             let e' = low_step l s i.who i.call (record { arguments = first.args; valid = valid; kept = kept; is_low = is_low; inside = inside.0 }) in
             subst (λ (o : StepResult). EndsAlone (state_after_run next is) (state_after_run o.state (part_script l is)) (record { who = i.who; head = i.head; reply = o.reply; recs = o.recs } ∷ run o.state (part_script l is))) (sym e')
-            (inside_more _ _ (played s i) (run (part l next) (part_script l is)) inside.0 rest)
+            (inside_more _ _ (item_record s i) (run (part l next) (part_script l is)) inside.0 rest)
         | false ↦ λ high.
             subst (λ t. EndsAlone (state_after_run next is) (state_after_run t (part_script l is)) (run t (part_script l is))) (other_step l s i.who i.call first.args valid kept high inside.0) rest
       ] refl

@@ -26,7 +26,7 @@ use Rattle.kern_model.specs.declared.world.World.{World}
 use Rattle.kern_model.specs.declared.world.ScriptItem.{ScriptItem}
 use Rattle.kern_model.specs.declared.world.WorldObject.{WorldObject}
 use Rattle.kern_model.specs.declared.world.WorldProc.{WorldProc}
-use Rattle.kern_model.specs.Boot.{object_of, process_of, entry_for, boot_object, boot_process, boot_objects, boot_processes, nothing, objects_loaded, boot, started, boot_recs}
+use Rattle.kern_model.specs.Boot.{object_of, process_of, entry_for, boot_object, boot_process, boot_objects, boot_processes, nothing, objects_loaded, boot, boot_recs_from, boot_recs}
 use Rattle.kern_model.specs.Exec.{exec_caps}
 use Rattle.kern_model.specs.Keys.{pid_cmp, same_pid}
 use Rattle.kern_model.proofs.KeyLaws.{pid_cmp_total, pid_cmp_exact}
@@ -35,12 +35,12 @@ use Rattle.kern_model.specs.Names.{name_of}
 use Rattle.kern_model.specs.Row.{Row, Subject, End, Stopped, Refused, Done, judge, exercise_with}
 use Rattle.kern_model.specs.Rules.{cap_of, denial_of}
 use Rattle.kern_model.specs.Run.{CallRecord, run}
-use Rattle.kern_model.specs.State.{State, Process, SetObject, DrawObject, changed, changed_by, drawn, look, next_object, next_process, root}
-use Rattle.kern_model.specs.Step.{step, settled, subject, state_after, own_of}
+use Rattle.kern_model.specs.State.{State, Process, SetObject, DrawObject, apply_change, apply_changes, last_drawn, look, next_object, next_process, root}
+use Rattle.kern_model.specs.Step.{step, step_result, subject, state_after, own_of}
 use Rattle.kern_model.specs.Table.{row}
 use Rattle.kern_model.specs.Valid.{IsThere}
 use Rattle.kern_model.proofs.MapLemmas.{each-insert, same_key, never_some}
-use Rattle.iso_laws.proofs.Part.{bound-changed}
+use Rattle.iso_laws.proofs.Part.{bound-apply_change}
 use Rattle.iso_laws.proofs.Rows.{used_preserves}
 use Rattle.iso_laws.proofs.Steps.{step_cases, row_outcome, fixed_after}
 use Rattle.iso_laws.proofs.Booting.{fixed_booted}
@@ -141,7 +141,7 @@ module _ (s : State) (who : Pid) (me : IsThere s.procs who) where
   lived_end p name (Done cs answer own) fair q there = lived own fair.1 q (born_all AllObjects _ s cs s fair.0 (λ k was. inl was) q there)
 
 module _ (s : State) (f : Pid → CapState) (seen : List Rec) (all : AllStarted s f seen) (who : Pid) (c : Call) where
-  settled_started : (p : Process) → map.get s.procs who ≡ Some p → AllStarted (settled s who p (name_of c) (row_outcome s who c p)).state (caps_after s.bound f (settled s who p (name_of c) (row_outcome s who c p)).recs) (seen ++ (settled s who p (name_of c) (row_outcome s who c p)).recs)
+  settled_started : (p : Process) → map.get s.procs who ≡ Some p → AllStarted (step_result s who p (name_of c) (row_outcome s who c p)).state (caps_after s.bound f (step_result s who p (name_of c) (row_outcome s who c p)).recs) (seen ++ (step_result s who p (name_of c) (row_outcome s who c p)).recs)
   settled_started p is =
       let me : IsThere s.procs who = record { value = p; is = is } in
       let used : List Rec = (row_outcome s who c p).used in
@@ -174,12 +174,12 @@ run_started (i ∷ is) s bound f seen same all q cap h =
     let later : List Rec = flat_map (λ (p : CallRecord). p.recs) (run next is) in
     let all' : AllStarted next (caps_after bound f recs) (seen ++ recs) = subst (λ b. AllStarted next (caps_after b f recs) (seen ++ recs)) same (step_started s f seen all i.who i.call) in
     subst (λ xs. HasStarted xs q) (append_assoc seen recs later)
-    (run_started is next bound (caps_after bound f recs) (seen ++ recs) (fixed_after s i.who i.call (λ t. t.bound) bound-changed ∙ same) all' q cap
+    (run_started is next bound (caps_after bound f recs) (seen ++ recs) (fixed_after s i.who i.call (λ t. t.bound) bound-apply_change ∙ same) all' q cap
     (ap (λ (x : CapState). has x.p cap) (sym (caps_after-append bound f recs later q)) ∙ h))
 
 -- ---- the start
 -- the entries of an object make no process
-entries_procs : (s t : State) (dir : Oid) (names : List Name) (id : Oid) → (changed_by t (entry_for s dir names id)).procs ≡ t.procs
+entries_procs : (s t : State) (dir : Oid) (names : List Name) (id : Oid) → (apply_changes t (entry_for s dir names id)).procs ≡ t.procs
 entries_procs s t dir [] id = refl
 entries_procs s t dir (name ∷ []) id = refl
 entries_procs s t dir (name ∷ next ∷ names) id = entries_procs s t (unwrap_or (look s dir name) dir) (next ∷ names) id
@@ -189,9 +189,9 @@ unfolding boot_object
 objects_procs [] s = refl
 objects_procs (o ∷ os) s =
     objects_procs os (boot_object s o)
-    ∙ entries_procs s (changed (changed s (DrawObject o.label (drawn s.object_numbers o.label + 1))) (SetObject (next_object s o.label) (object_of o))) root o.path.names (next_object s o.label)
+    ∙ entries_procs s (apply_change (apply_change s (DrawObject o.label (last_drawn s.object_numbers o.label + 1))) (SetObject (next_object s o.label) (object_of o))) root o.path.names (next_object s o.label)
 
-processes_started : (bound : CapSet) (ws : List WorldProc) (s : State) (f : Pid → CapState) (seen : List Rec) → AllStarted s f seen → AllStarted (boot_processes s ws) (caps_after bound f (started s ws)) (seen ++ started s ws)
+processes_started : (bound : CapSet) (ws : List WorldProc) (s : State) (f : Pid → CapState) (seen : List Rec) → AllStarted s f seen → AllStarted (boot_processes s ws) (caps_after bound f (boot_recs_from s ws)) (seen ++ boot_recs_from s ws)
 unfolding boot_process
 processes_started bound [] s f seen all = record { living = λ q there. started_before seen [] q (all.living q there); permitted = λ q cap h. started_before seen [] q (all.permitted q cap h) }
 processes_started bound (w ∷ ws) s f seen all =
@@ -206,7 +206,7 @@ processes_started bound (w ∷ ws) s f seen all =
           by_test (λ b. has (cond b w.caps (f q)).p cap ≡ true → HasStarted (seen ++ r ∷ []) q) (same_pid q who)
           (λ t _. subst (HasStarted (seen ++ r ∷ [])) (sym (same_key pid_cmp_exact q who t)) new) (λ _ h. started_before seen (r ∷ []) q (all.permitted q cap h));
     } in
-    subst (AllStarted (boot_processes (boot_process s w) ws) (caps_after bound (caps_after_one bound f r) (started (boot_process s w) ws))) (append_assoc seen (r ∷ []) (started (boot_process s w) ws))
+    subst (AllStarted (boot_processes (boot_process s w) ws) (caps_after bound (caps_after_one bound f r) (boot_recs_from (boot_process s w) ws))) (append_assoc seen (r ∷ []) (boot_recs_from (boot_process s w) ws))
     (processes_started bound ws (boot_process s w) (caps_after_one bound f r) (seen ++ r ∷ []) one)
 
 no_process : (w : World) (q : Pid) → IsThere (objects_loaded w).procs q → ⊥
@@ -220,5 +220,5 @@ booted_started w =
 pub all_started : (w : World) (items : List ScriptItem) (q : Pid) (cap : Cap) → has (caps_of w.bound (all_recs w items) q).p cap ≡ true → HasStarted (all_recs w items) q
 all_started w items q cap h =
     let later : List Rec = flat_map (λ (p : CallRecord). p.recs) (run (boot w) items) in
-    run_started items (boot w) w.bound (caps_of w.bound (boot_recs w)) (boot_recs w) (fixed_booted (λ s. s.bound) bound-changed w) (booted_started w) q cap
+    run_started items (boot w) w.bound (caps_of w.bound (boot_recs w)) (boot_recs w) (fixed_booted (λ s. s.bound) bound-apply_change w) (booted_started w) q cap
     (ap (λ (x : CapState). has x.p cap) (sym (caps_after-append w.bound (λ _. no_flags) (boot_recs w) later q)) ∙ h)

@@ -21,7 +21,7 @@ use Rattle.kern_model.specs.declared.records.Rec.{Rec}
 use Rattle.kern_model.specs.declared.records.Rec.TheVariants as rec
 use Rattle.kern_model.specs.declared.world.ScriptItem.{ScriptItem}
 use Rattle.kern_model.specs.declared.world.WorldProc.{WorldProc}
-use Rattle.kern_model.specs.Boot.{boot_process, started}
+use Rattle.kern_model.specs.Boot.{boot_process, boot_recs_from}
 use Rattle.kern_model.specs.Drawing.{NeverFalls}
 use Rattle.kern_model.proofs.KeyLaws.{pid_cmp_total, pid_cmp_exact}
 use Rattle.kern_model.specs.Lineage.{caps_after_one, caps_after, origin, ancestor, StartOnce}
@@ -29,7 +29,7 @@ use Rattle.kern_model.specs.Names.{name_of}
 use Rattle.kern_model.specs.Row.{Row, Subject, End, Stopped, Refused, Done, judge, exercise_with}
 use Rattle.kern_model.specs.Rules.{cap_of, denial_of}
 use Rattle.kern_model.specs.Run.{CallRecord, run}
-use Rattle.kern_model.specs.State.{State, Process, drawn, next_process}
+use Rattle.kern_model.specs.State.{State, Process, last_drawn, next_process}
 use Rattle.kern_model.specs.Step.{step, subject, own_of}
 use Rattle.kern_model.proofs.MapLemmas.{get_or-found, get-insert_same}
 use Rattle.iso_laws.proofs.Rows.{used_preserves}
@@ -99,32 +99,32 @@ AreStarts (r ∷ rs) = OthersAfter r rs × AreStarts rs
 
 -- a start with a number above the last ones drawn
 abbrev StartsAbove : FinMap label_cmp ℕ → Rec → Type 0
-StartsAbove numbers (rec.Boot who label caps) = drawn numbers who.label < who.n
+StartsAbove numbers (rec.Boot who label caps) = last_drawn numbers who.label < who.n
 StartsAbove numbers _ = ⊥
 
-other_above : (numbers : FinMap label_cmp ℕ) (who : Pid) → who.n ≤ drawn numbers who.label → (r : Rec) → StartsAbove numbers r → StartsOther who r
-other_above numbers who few (rec.Boot q label caps) above = λ same. let few' : q.n ≤ drawn numbers q.label = subst (λ (k : Pid). k.n ≤ drawn numbers k.label) (sym same) few in absurd (omega (arith, few', above))
+other_above : (numbers : FinMap label_cmp ℕ) (who : Pid) → who.n ≤ last_drawn numbers who.label → (r : Rec) → StartsAbove numbers r → StartsOther who r
+other_above numbers who few (rec.Boot q label caps) above = λ same. let few' : q.n ≤ last_drawn numbers q.label = subst (λ (k : Pid). k.n ≤ last_drawn numbers k.label) (sym same) few in absurd (omega (arith, few', above))
 other_above numbers who few r above = absurd above
 
-others_above : (numbers : FinMap label_cmp ℕ) (who : Pid) → who.n ≤ drawn numbers who.label → (rs : List Rec) → AllByRecursion (StartsAbove numbers) rs → AllByRecursion (StartsOther who) rs
+others_above : (numbers : FinMap label_cmp ℕ) (who : Pid) → who.n ≤ last_drawn numbers who.label → (rs : List Rec) → AllByRecursion (StartsAbove numbers) rs → AllByRecursion (StartsOther who) rs
 others_above numbers who few [] h = tt
 others_above numbers who few (r ∷ rs) h = (other_above numbers who few r h.0, others_above numbers who few rs h.1)
 
-started_above : (ws : List WorldProc) (s : State) (numbers : FinMap label_cmp ℕ) → NeverFalls numbers s.process_numbers → AllByRecursion (StartsAbove numbers) (started s ws)
+started_above : (ws : List WorldProc) (s : State) (numbers : FinMap label_cmp ℕ) → NeverFalls numbers s.process_numbers → AllByRecursion (StartsAbove numbers) (boot_recs_from s ws)
 unfolding boot_process
 started_above [] s numbers up = tt
 started_above (w ∷ ws) s numbers up = (
   omega (arith, up w.label),
-  started_above ws (boot_process s w) numbers (falls_nowhere numbers s.process_numbers w.label (drawn s.process_numbers w.label + 1) up (omega arith)),
+  started_above ws (boot_process s w) numbers (falls_nowhere numbers s.process_numbers w.label (last_drawn s.process_numbers w.label + 1) up (omega arith)),
 )
 
-pub started_once : (ws : List WorldProc) (s : State) → AreStarts (started s ws)
+pub started_once : (ws : List WorldProc) (s : State) → AreStarts (boot_recs_from s ws)
 unfolding boot_process
 started_once [] s = tt
 started_once (w ∷ ws) s =
-    let numbers : FinMap label_cmp ℕ = map.insert s.process_numbers w.label (drawn s.process_numbers w.label + 1) in
-    let now : drawn numbers w.label ≡ drawn s.process_numbers w.label + 1 = get_or-found _ w.label 0 _ (get-insert_same label_cmp_total s.process_numbers w.label _) in
-    (others_above numbers (next_process s w.label) (omega (arith, now)) (started (boot_process s w) ws) (started_above ws (boot_process s w) numbers (λ l. omega arith)), started_once ws (boot_process s w))
+    let numbers : FinMap label_cmp ℕ = map.insert s.process_numbers w.label (last_drawn s.process_numbers w.label + 1) in
+    let now : last_drawn numbers w.label ≡ last_drawn s.process_numbers w.label + 1 = get_or-found _ w.label 0 _ (get-insert_same label_cmp_total s.process_numbers w.label _) in
+    (others_above numbers (next_process s w.label) (omega (arith, now)) (boot_recs_from (boot_process s w) ws) (started_above ws (boot_process s w) numbers (λ l. omega arith)), started_once ws (boot_process s w))
 
 -- ---- a start among the records of a run
 -- a start among records is among the first of them, where the others are none

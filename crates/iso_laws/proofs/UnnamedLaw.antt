@@ -12,7 +12,7 @@ use Rattle.kern_model.specs.Keys.{same_pid}
 use Rattle.kern_model.specs.Names.{name_of}
 use Rattle.kern_model.specs.Row.{End, Stopped, Refused, Done, CheckOutcome, judge}
 use Rattle.kern_model.specs.State.{State, Process, next_process}
-use Rattle.kern_model.specs.Step.{StepResult, step, step_by, settled, reply_of, own_of, state_after}
+use Rattle.kern_model.specs.Step.{StepResult, step, step_by, step_result, reply_of, own_of, state_after}
 use Rattle.kern_model.specs.Table.{row}
 use Rattle.kern_model.proofs.KeyLaws.{pid_cmp_total}
 use Rattle.iso_laws.specs.Laws.{UnnamedCapability}
@@ -49,7 +49,7 @@ module _ (c : Cap) (s : State) (who : Pid) (picks : Pid → Bool) (covers : (q :
     pub recs : o'.recs ≡ o.recs
     pub state : state_without c picks o'.state ≡ state_without c picks o.state
 
-  same_settled : (p : Process) (name : CallName) (j j' : CheckOutcome) → OutcomeMatches (SameWithout c picks) j j' → StepsAgree false (settled s who p name j) (settled s' who (process_without c p) name j')
+  same_settled : (p : Process) (name : CallName) (j j' : CheckOutcome) → OutcomeMatches (SameWithout c picks) j j' → StepsAgree false (step_result s who p name j) (step_result s' who (process_without c p) name j')
   same_settled p name j j' h = record {
     reply = λ _. reply_same j.end j'.end h.end;
     recs = λ i. h.used i ++ own_same p name j.end j'.end h.end i;
@@ -57,8 +57,8 @@ module _ (c : Cap) (s : State) (who : Pid) (picks : Pid → Bool) (covers : (q :
   }
 
   -- the row follows, and so does what is settled
-  same_judged : (called : Call) (p : Process) → map.get s.procs who ≡ Some p → (called ≡ call.Fork → picks (next_process s p.label) ≡ true) → IsUnnamed c (settled s who p (name_of called) (row_outcome s who called p)).recs
-      → StepsAgree (reports_own_sets called) (settled s who p (name_of called) (row_outcome s who called p)) (settled s' who (process_without c p) (name_of called) (row_outcome s' who called (process_without c p)))
+  same_judged : (called : Call) (p : Process) → map.get s.procs who ≡ Some p → (called ≡ call.Fork → picks (next_process s p.label) ≡ true) → IsUnnamed c (step_result s who p (name_of called) (row_outcome s who called p)).recs
+      → StepsAgree (reports_own_sets called) (step_result s who p (name_of called) (row_outcome s who called p)) (step_result s' who (process_without c p) (name_of called) (row_outcome s' who called (process_without c p)))
   unfolding judge
   same_judged call.CapGetProc p is child unnamed = record { reply = λ h. absurd (true≢false h); recs = refl; state = state_without_after c s who picks covers [] [] refl }
   same_judged called p is child unnamed =
@@ -71,7 +71,7 @@ module _ (c : Cap) (s : State) (who : Pid) (picks : Pid → Bool) (covers : (q :
   unfolding step
   same_step called child = step_cases s who called (λ o. IsUnnamed c o.recs → StepsAgree (reports_own_sets called) o (step s' who called))
       (λ none _. subst (λ w. StepsAgree (reports_own_sets called) (step_by s who called None) (step_by s' who called w)) (sym (absent_without c s who picks covers none)) (record { reply = λ _. refl; recs = refl; state = state_without_after c s who picks covers [] [] refl }))
-      (λ p is unnamed. subst (λ w. StepsAgree (reports_own_sets called) (settled s who p (name_of called) (row_outcome s who called p)) (step_by s' who called w)) (sym (there_without c s who picks covers p is)) (same_judged called p is (child p is) unnamed))
+      (λ p is unnamed. subst (λ w. StepsAgree (reports_own_sets called) (step_result s who p (name_of called) (row_outcome s who called p)) (step_by s' who called w)) (sym (there_without c s who picks covers p is)) (same_judged called p is (child p is) unnamed))
 
 -- ---- the caller, and the child of a fork
 covers_caller : (s : State) (who : Pid) (called : Call) (q : Pid) → is_caller who q ≡ true → is_caller_or_child s who called q ≡ true

@@ -28,7 +28,7 @@ use Rattle.kern_model.specs.Entries.{link_count}
 use Rattle.kern_model.specs.Keys.{Spot, oid_cmp, same_oid, pid_cmp, did_cmp, spot_cmp}
 use Rattle.kern_model.proofs.KeyLaws.{oid_cmp_total, oid_cmp_exact, pid_cmp_total, pid_cmp_exact, spot_cmp_total, spot_cmp_exact}
 use Rattle.kern_model.specs.Kinds.{kind_of, bytes_of, is_stream}
-use Rattle.kern_model.specs.State.{State, Process, Description, SetObject, SetEntry, DrawObject, changed, changed_by, drawn, next_object, next_process, root}
+use Rattle.kern_model.specs.State.{State, Process, Description, SetObject, SetEntry, DrawObject, apply_change, apply_changes, last_drawn, next_object, next_process, root}
 use Rattle.kern_model.specs.Valid.{IsDrawn, AreFew, leads, IsRoot, IsValidObject, IsValidEntry, IsValidProcess, IsValid}
 use Rattle.kern_model.specs.World.{objects_at, procs_at, same_names, parent_names, object_with_path, IsPlaced, ArePlaced, IsWorldObject, IsWorldProc, IsWorld}
 use Rattle.kern_model.proofs.MapLemmas.{same_key, get_or-absent, get-insert_same, get-insert_kept, other_key, each-insert, never_some, some_same, count_entries-one}
@@ -81,7 +81,7 @@ pipe_alone (body.File bytes) e = absurd (cc)
 pipe_alone body.Fifo e = absurd (cc)
 pipe_alone body.Pipe e = refl
 
-none_drawn : (l : Label) → drawn map.empty l ≡ 0
+none_drawn : (l : Label) → last_drawn map.empty l ≡ 0
 none_drawn l = get_or-absent _ l 0 (get-empty label_cmp l)
 
 -- ---- the objects
@@ -90,7 +90,7 @@ record IsMade (top : Label) (numbers : FinMap label_cmp ℕ) (id : Oid) (x : Obj
   line : WorldObject
   is : x ≡ object_of line
   world : IsWorldObject top line
-  number : IsDrawn id.n (drawn numbers id.label)
+  number : IsDrawn id.n (last_drawn numbers id.label)
 
 -- an object of a world is at these names
 record Stands (names_of : Oid → List Name) (objects : FinMap oid_cmp Object) (names : List Name) (o : WorldObject) : Type 0 where
@@ -122,8 +122,8 @@ record IsBuilt (top : Label) (before : List WorldObject) (s : State) : Type 0 wh
   stands : (names : List Name) (o : WorldObject) → object_with_path before names ≡ Some o → Stands names_of s.objects names o
   led : (id : Oid) (x : Object) → map.get s.objects id ≡ Some x → leads s root (names_of id) ≡ Some id
   entered : (spot : Spot) (id : Oid) → map.get s.entries spot ≡ Some id → IsEntered s.objects before names_of spot id
-  below : (l : Label) → 1 ≤ drawn s.object_numbers l → dominates top l ≡ true
-  counted : (l : Label) → drawn s.object_numbers l ≤ objects_at l before
+  below : (l : Label) → 1 ≤ last_drawn s.object_numbers l → dominates top l ≡ true
+  counted : (l : Label) → last_drawn s.object_numbers l ≤ objects_at l before
   no_procs : s.procs ≡ map.empty
   no_process_numbers : s.process_numbers ≡ map.empty
   no_descriptions : s.descriptions ≡ map.empty
@@ -131,7 +131,7 @@ record IsBuilt (top : Label) (before : List WorldObject) (s : State) : Type 0 wh
 
 -- the state with the object, before its entry
 abbrev with_object : State → WorldObject → State
-with_object s o = changed (changed s (DrawObject o.label (drawn s.object_numbers o.label + 1))) (SetObject (next_object s o.label) (object_of o))
+with_object s o = apply_change (apply_change s (DrawObject o.label (last_drawn s.object_numbers o.label + 1))) (SetObject (next_object s o.label) (object_of o))
 
 -- the first object is the root
 module _ (bound : CapSet) (top : Label) (o : WorldObject) (is_dir : o.body ≡ body.Dir) (lowest : o.label ≡ bottom) (world : IsWorldObject top o) where
@@ -154,7 +154,7 @@ module _ (bound : CapSet) (top : Label) (o : WorldObject) (is_dir : o.body ≡ b
   built_first : o.path.names ≡ [] → IsBuilt top (o ∷ []) (boot_object (nothing bound top) o)
   unfolding boot_object
   built_first no_names =
-      subst (λ names. IsBuilt top (o ∷ []) (changed_by first_state (entry_for (nothing bound top) root names first_id))) (sym no_names) (record {
+      subst (λ names. IsBuilt top (o ∷ []) (apply_changes first_state (entry_for (nothing bound top) root names first_id))) (sym no_names) (record {
         top_is = refl;
         root_is = record { object = object_of o; is = root_is_first; root_dir = ap kind_of is_dir; root_label = lowest };
         made = only_first (IsMade top first_state.object_numbers) (record { line = o; is = refl; world = world; number = next_drawn map.empty o.label });
@@ -224,7 +224,7 @@ module _ (top : Label) (before : List WorldObject) (s : State) (built : IsBuilt 
     spot = (dir.id, end.name)
 
     abbrev next_state : State
-    next_state = changed (with_object s o) (SetEntry spot new)
+    next_state = apply_change (with_object s o) (SetEntry spot new)
 
     own_names : built.names_of dir.id ++ end.name ∷ [] ≡ o.path.names
     own_names = ap (λ ns. ns ++ end.name ∷ []) dir.named ∙ sym end.whole
@@ -317,7 +317,7 @@ module _ (top : Label) (before : List WorldObject) (s : State) (built : IsBuilt 
   built_object =
       let dir = built.stands (parent_names o.path.names) placed.parent placed.parent_given in
       let end = new_last_name o.path.names placed.new in
-      subst (λ cs. IsBuilt top (before ++ o ∷ []) (changed_by (with_object s o) cs)) (sym (end.entry s root dir.id new (dir_led dir end))) (built_next dir end)
+      subst (λ cs. IsBuilt top (before ++ o ∷ []) (apply_changes (with_object s o) cs)) (sym (end.entry s root dir.id new (dir_led dir end))) (built_next dir end)
 
 built_objects : (top : Label) (os before : List WorldObject) (s : State) → IsBuilt top before s → ArePlaced before os → AllByRecursion (IsWorldObject top) os → IsBuilt top (before ++ os) (boot_objects s os)
 built_objects top [] before s built placed worlds = subst (λ os. IsBuilt top os s) (sym (append-nil before)) built
@@ -338,13 +338,13 @@ record IsStarted (top : Label) (numbers : FinMap label_cmp ℕ) (who : Pid) (p :
   line : WorldProc
   is : p ≡ process_of line
   world : IsWorldProc top line
-  number : IsDrawn who.n (drawn numbers who.label)
+  number : IsDrawn who.n (last_drawn numbers who.label)
 
 -- processes of a world alone, with no more numbers drawn than there are processes at each label
 record IsStaffed (top : Label) (before : List WorldProc) (procs : FinMap pid_cmp Process) (numbers : FinMap label_cmp ℕ) : Type 0 where
   started : (who : Pid) (p : Process) → map.get procs who ≡ Some p → IsStarted top numbers who p
-  below : (l : Label) → 1 ≤ drawn numbers l → dominates top l ≡ true
-  counted : (l : Label) → drawn numbers l ≤ procs_at l before
+  below : (l : Label) → 1 ≤ last_drawn numbers l → dominates top l ≡ true
+  counted : (l : Label) → last_drawn numbers l ≤ procs_at l before
 
 staffed_none : (top : Label) → IsStaffed top [] map.empty map.empty
 staffed_none top = record {
@@ -453,11 +453,11 @@ module _ (w : World) (is : IsWorld w) (f : State) (built : IsBuilt w.top w.objec
         fds = λ fd did g. absurd (never_some _ did (get-empty nat_cmp fd) g);
       })
 
-  few_drawn : (drawn_numbers : FinMap label_cmp ℕ) (most : ℕ) → ((l : Label) → 1 ≤ drawn drawn_numbers l → dominates w.top l ≡ true) → ((l : Label) → drawn drawn_numbers l ≤ most) → AreFew s.top drawn_numbers most
+  few_drawn : (drawn_numbers : FinMap label_cmp ℕ) (most : ℕ) → ((l : Label) → 1 ≤ last_drawn drawn_numbers l → dominates w.top l ≡ true) → ((l : Label) → last_drawn drawn_numbers l ≤ most) → AreFew s.top drawn_numbers most
   few_drawn drawn_numbers most below few = record { below = λ l h. below_top l (below l h); few = few }
 
-  no_description_drawn : (l : Label) → drawn s.description_numbers l ≡ 0
-  no_description_drawn l = ap (λ (m : FinMap label_cmp ℕ). drawn m l) built.no_description_numbers ∙ none_drawn l
+  no_description_drawn : (l : Label) → last_drawn s.description_numbers l ≡ 0
+  no_description_drawn l = ap (λ (m : FinMap label_cmp ℕ). last_drawn m l) built.no_description_numbers ∙ none_drawn l
 
   valid_whole : IsValid s
   valid_whole = record {

@@ -20,7 +20,7 @@ use Rattle.kern_model.specs.Create.{creation}
 use Rattle.kern_model.specs.FileRows.{open_object}
 use Rattle.kern_model.specs.Keys.{same_oid}
 use Rattle.kern_model.specs.Kinds.{is_file, is_fifo, is_permission, is_stream}
-use Rattle.kern_model.specs.State.{State, Process, Description, SetObject, SetProcess, changed, changed_by, next_object, object_at, stub_object}
+use Rattle.kern_model.specs.State.{State, Process, Description, SetObject, SetProcess, apply_change, apply_changes, next_object, object_at, stub_object}
 use Rattle.kern_model.specs.Valid.{IsValid, IsDir, IsValidEnd, IsValidProcess}
 use Rattle.kern_model.proofs.MapLemmas.{some_same, get-insert_same, get_or-found}
 use Rattle.kern_model.proofs.KeyLaws.{oid_cmp_total, did_cmp_total, did_cmp_exact}
@@ -44,7 +44,7 @@ module _ (s : State) (valid : IsValid s) (who : Pid) (p : Process) (is : map.get
   -- a valid state stays valid where the caller changes, but for its parent and descriptors
   valid_caller : (ids : Ids) (caps : CapState) (umask : ℕ) (audited : Bool) (label : Label) (cwd : Oid) (ended : List (Pid × Ending)) → dominates s.top label ≡ true
       → is_within caps.e caps.p ≡ true → is_permission umask ≡ true → length ids.groups ≤ MAX_GROUPS → IsDir s.objects cwd → AllByRecursion (IsValidEnd s) ended
-      → IsValid (changed s (SetProcess who (record p { ids = ids; caps = caps; umask = umask; audited = audited; label = label; cwd = cwd; ended = ended })))
+      → IsValid (apply_change s (SetProcess who (record p { ids = ids; caps = caps; umask = umask; audited = audited; label = label; cwd = cwd; ended = ended })))
   valid_caller ids caps umask audited label cwd ended below within mode few dir ends =
       valid_process s valid who _ (λ old e. ap (λ (x : Process). x.fds) (some_same p old (sym is ∙ e))) (record {
         below = below;
@@ -59,7 +59,7 @@ module _ (s : State) (valid : IsValid s) (who : Pid) (p : Process) (is : map.get
       })
 
 -- a valid state stays valid, whatever crosses
-pub valid_cases : (excluded : Rec → Bool) (s : State) → IsValid s → (who : Pid) (p : Process) → map.get s.procs who ≡ Some p → EffectCases excluded s who p (Unit {0}) (λ cs. IsValid (changed_by s cs))
+pub valid_cases : (excluded : Rec → Bool) (s : State) → IsValid s → (who : Pid) (p : Process) → map.get s.procs who ≡ Some p → EffectCases excluded s who p (Unit {0}) (λ cs. IsValid (apply_changes s cs))
 valid_cases excluded s valid who p is =
     let mine : IsValidProcess s who p = own s valid who p is in
     record {
@@ -80,12 +80,12 @@ valid_cases excluded s valid who p is =
           let new : Object = record (object_at s id) { attr = attr; bytes = [] } in
           let at : object_at s id ≡ old = get_or-found s.objects id (stub_object s.top) old may.target.is in
           let new_file : new.kind ≡ kind.File = ap (λ (o : Object). o.kind) at ∙ file in
-          valid_opened (changed s (SetObject id new))
+          valid_opened (apply_change s (SetObject id new))
           (valid_content s valid id old new may.target.is (ap (λ (o : Object). o.kind) at) (ap (λ (o : Object). o.label) at)
           (record { mode = mode; only_files = λ other. absurd (true≢false (ap is_file (sym new_file) ∙ other)); dir_bytes = λ _. refl; file_bytes = λ _. omega arith; stream_bytes = λ _. omega arith }) (λ _ _. refl))
           who p is (record { object = id; reads = flags.r; writes = flags.w; appends = flags.a; offset = 0 }) new (get-insert_same oid_cmp_total s.objects id new) (λ dir. let no : kind.File ≡ kind.Dir = sym new_file ∙ dir in cc) may.room.descriptor may.room.number;
       open_made = λ dir name o place flags making file room.
-          valid_opened (changed_by s (creation s p.label dir name o)) (valid_made s valid p dir name o making.fresh making.is_dir making.free making.not_removed mine.below making.left making.order (making.named tt))
+          valid_opened (apply_changes s (creation s p.label dir name o)) (valid_made s valid p dir name o making.fresh making.is_dir making.free making.not_removed mine.below making.left making.order (making.named tt))
           who p is (record { object = next_object s p.label; reads = flags.r; writes = flags.w; appends = flags.a; offset = 0 }) o (get-insert_same oid_cmp_total s.objects (next_object s p.label) o) (λ dir. let no : kind.File ≡ kind.Dir = sym file ∙ dir in cc) room.descriptor room.number;
       duplicate = λ fd f open_is free. valid_shared s valid who p is f.did (record { value = f.description; is = open_is.is }) free;
       seek = λ fd f offset open_is. valid_moved s valid f.did f.description (record f.description { offset = offset }) open_is.is refl;
@@ -105,7 +105,7 @@ valid_cases excluded s valid who p is =
       write_file = λ fd f attr bytes offset open_is written file mode few.
           let there = open_object_is s valid p fd f open_is in
           let new : Object = record (open_object s f) { attr = attr; bytes = bytes } in
-          valid_moved (changed s (SetObject f.description.object new))
+          valid_moved (apply_change s (SetObject f.description.object new))
           (valid_content s valid f.description.object (open_object s f) new there refl refl
           (record {
             mode = mode;

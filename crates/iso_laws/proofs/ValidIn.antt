@@ -5,7 +5,7 @@ use Rattle.std.specs.FinMap as map
 use Rattle.std.specs.FinMap.{FinMap}
 use Rattle.std.proofs.Common.{sym, ◌∙◌, ap}
 use Rattle.cap_bits.specs.CapSet.{is_within}
-use Rattle.cap_bits.specs.State.{no_flags}
+use Rattle.cap_bits.specs.FileCaps.{no_file_caps}
 use Rattle.lab_lattice.specs.Label.{Label, dominates}
 use Rattle.kern_model.specs.declared.limits.TheConstants.{MAX_DESCRIPTORS, MAX_FILE_BYTES, MAX_GROUPS, MAX_LINKS, MAX_PIPE_BYTES}
 use Rattle.kern_model.specs.declared.calls.Ending.{Ending}
@@ -18,13 +18,13 @@ use Rattle.kern_model.specs.Descriptors.{any_open}
 use Rattle.kern_model.specs.Entries.{is_empty, is_removed, link_count}
 use Rattle.kern_model.specs.Keys.{oid_cmp}
 use Rattle.kern_model.specs.Kinds.{is_dir, is_file, is_mode, is_permission, is_stream}
-use Rattle.kern_model.specs.State.{State, Process, Description, drawn}
+use Rattle.kern_model.specs.State.{State, Process, Description, last_drawn}
 use Rattle.kern_model.specs.Valid.{IsThere, IsDir, IsDrawn, IsReached, IsHeld, IsValidObject, IsValidEnd, IsValidProcess, IsValidDescription}
 
 -- the mode and the bytes of an object are within the limits of its kind
 pub record HasValidContent (o : Object) : Type 0 where
   pub mode : is_mode o.attr.mode ≡ true
-  pub only_files : is_file o.kind ≡ false → o.attr.caps ≡ no_flags
+  pub only_files : is_file o.kind ≡ false → o.attr.caps ≡ no_file_caps
   pub dir_bytes : o.kind ≡ kind.Dir → o.bytes ≡ []
   pub file_bytes : o.kind ≡ kind.File → length o.bytes ≤ MAX_FILE_BYTES
   pub stream_bytes : is_stream o.kind ≡ true → length o.bytes ≤ MAX_PIPE_BYTES
@@ -35,7 +35,7 @@ content_of s id o valid = record { mode = valid.mode; only_files = valid.only_fi
 -- what is valid of a process, but for its parent and its descriptors
 pub record IsValidAlone (s : State) (who : Pid) (p : Process) : Type 0 where
   pub below : dominates s.top p.label ≡ true
-  pub drawn_already : IsDrawn who.n (drawn s.process_numbers who.label)
+  pub drawn_already : IsDrawn who.n (last_drawn s.process_numbers who.label)
   pub within : is_within p.caps.e p.caps.p ≡ true
   pub umask : is_permission p.umask ≡ true
   pub few_groups : length p.ids.groups ≤ MAX_GROUPS
@@ -70,7 +70,7 @@ module _ (s t : State) (top_is : t.top ≡ s.top) where
       record { who = held.who; process = held.process; fd = held.fd; process_is = still held.who held.process held.process_is; fd_is = held.fd_is }
 
   -- an object is valid where its label and content are, its number was drawn, its names are few, and as a directory it is reached or is removed and empty
-  pub object_in : (id : Oid) (o : Object) → dominates s.top o.label ≡ true → IsDrawn id.n (drawn t.object_numbers id.label) → HasValidContent o
+  pub object_in : (id : Oid) (o : Object) → dominates s.top o.label ≡ true → IsDrawn id.n (last_drawn t.object_numbers id.label) → HasValidContent o
       → (o.kind ≡ kind.Fifo → any_open t (λ d. true) id ≡ false → o.bytes ≡ []) → (is_dir o.kind ≡ false → link_count t id ≤ MAX_LINKS)
       → (o.kind ≡ kind.Dir → IsReached t id ⊎ ((is_removed t id ≡ true) × (is_empty t id ≡ true))) → IsValidObject t id o
   object_in id o below drawn_already content fifo_bytes few_names reached = record {
@@ -92,14 +92,14 @@ module _ (s t : State) (top_is : t.top ≡ s.top) where
     dir_in id dir = let there = still id dir.object dir.is in record { object = there.object; is = there.is; dir = there.kind_is ∙ dir.dir }
 
     -- a description stays valid where its number was drawn, if it is held
-    pub description_in : (did : Did) (d : Description) → IsValidDescription s did d → IsDrawn did.n (drawn t.description_numbers did.label) → IsHeld t did
+    pub description_in : (did : Did) (d : Description) → IsValidDescription s did d → IsDrawn did.n (last_drawn t.description_numbers did.label) → IsHeld t did
         → IsValidDescription t did d
     description_in did d valid drawn_already held =
         let there = still d.object valid.object valid.object_is in
         record { drawn_already = drawn_already; object = there.object; object_is = there.is; no_dir = λ dir. valid.no_dir (sym there.kind_is ∙ dir); held = held }
 
     -- what was drawn of processes stays drawn
-    module _ (up : (label : Label) (n : ℕ) → IsDrawn n (drawn s.process_numbers label) → IsDrawn n (drawn t.process_numbers label)) where
+    module _ (up : (label : Label) (n : ℕ) → IsDrawn n (last_drawn s.process_numbers label) → IsDrawn n (last_drawn t.process_numbers label)) where
       ended_in : (es : List (Pid × Ending)) → AllByRecursion (IsValidEnd s) es → AllByRecursion (IsValidEnd t) es
       ended_in [] h = tt
       ended_in (e ∷ es) h =

@@ -21,7 +21,7 @@ use Rattle.kern_model.specs.declared.records.Rec.{Rec}
 use Rattle.kern_model.specs.Maps.{select}
 use Rattle.kern_model.specs.Row.{Row, Need, Soft, Refuse, Fail, Commit, Subject, End, Stopped, Refused, Done, CheckOutcome, judge, check_outcome, verdict_of, is_denied, exercises_after, exercise_with, may}
 use Rattle.kern_model.specs.Rules.{cap_of}
-use Rattle.kern_model.specs.State.{State, Process, Change, SetProcess, DropProcess, changed, changed_by}
+use Rattle.kern_model.specs.State.{State, Process, Change, SetProcess, DropProcess, apply_change, apply_changes}
 use Rattle.kern_model.specs.Step.{subject}
 use Rattle.kern_model.proofs.KeyLaws.{pid_cmp_total, pid_cmp_exact}
 use Rattle.kern_model.proofs.Selections.{get-select_each, select-insert_each}
@@ -79,14 +79,14 @@ module _ (c : Cap) (picks : Pid → Bool) where
   row_without (Commit changes answer own) = Commit (changes_without changes) answer own
 
   -- ---- a state after changes
-  state_without-changed : (s : State) (change : Change) → state_without c picks (changed s change) ≡ changed (state_without c picks s) (change_without change)
-  state_without-changed s (SetProcess q p) = ap (λ procs. record s { procs = procs }) (select-insert_each pid_cmp_total pid_cmp_exact process_if_picked s.procs q p)
-  state_without-changed s (DropProcess q) = ap (λ procs. record s { procs = procs }) (select-remove_each pid_cmp_total pid_cmp_exact process_if_picked s.procs q)
-  state_without-changed s change = refl
+  state_without-apply_change : (s : State) (change : Change) → state_without c picks (apply_change s change) ≡ apply_change (state_without c picks s) (change_without change)
+  state_without-apply_change s (SetProcess q p) = ap (λ procs. record s { procs = procs }) (select-insert_each pid_cmp_total pid_cmp_exact process_if_picked s.procs q p)
+  state_without-apply_change s (DropProcess q) = ap (λ procs. record s { procs = procs }) (select-remove_each pid_cmp_total pid_cmp_exact process_if_picked s.procs q)
+  state_without-apply_change s change = refl
 
-  pub state_without-changed_by : (changes : List Change) (s : State) → state_without c picks (changed_by s changes) ≡ changed_by (state_without c picks s) (changes_without changes)
-  state_without-changed_by [] s = refl
-  state_without-changed_by (change ∷ changes) s = state_without-changed_by changes (changed s change) ∙ ap (λ t. changed_by t (changes_without changes)) (state_without-changed s change)
+  pub state_without-apply_changes : (changes : List Change) (s : State) → state_without c picks (apply_changes s changes) ≡ apply_changes (state_without c picks s) (changes_without changes)
+  state_without-apply_changes [] s = refl
+  state_without-apply_changes (change ∷ changes) s = state_without-apply_changes changes (apply_change s change) ∙ ap (λ t. apply_changes t (changes_without changes)) (state_without-apply_change s change)
 
   -- ---- a picked process that is set, with the capability or without it
   pub set_without : (q : Pid) (p : Process) → picks q ≡ true → change_without (SetProcess q (process_without c p)) ≡ change_without (SetProcess q p)
@@ -235,5 +235,5 @@ module _ (c : Cap) (s : State) (who : Pid) (picks : Pid → Bool) (covers : (q :
       ∙ sym (get-select_each pid_cmp_total pid_cmp_exact (process_if_picked c picks) s.procs q)))
 
   -- changes that are the same once the capability is taken lead to states that are
-  pub state_without_after : (changes changes' : List Change) → SameWithout c picks changes changes' → state_without c picks (changed_by caller_without changes') ≡ state_without c picks (changed_by s changes)
-  state_without_after changes changes' same = state_without-changed_by c picks changes' caller_without ∙ (λ i. changed_by (state_without_twice i) (same i)) ∙ sym (state_without-changed_by c picks changes s)
+  pub state_without_after : (changes changes' : List Change) → SameWithout c picks changes changes' → state_without c picks (apply_changes caller_without changes') ≡ state_without c picks (apply_changes s changes)
+  state_without_after changes changes' same = state_without-apply_changes c picks changes' caller_without ∙ (λ i. apply_changes (state_without_twice i) (same i)) ∙ sym (state_without-apply_changes c picks changes s)

@@ -33,14 +33,14 @@ use Rattle.kern_model.specs.declared.objects.Kind.TheVariants as kind
 use Rattle.kern_model.specs.declared.objects.Object.{Object}
 use Rattle.kern_model.specs.declared.records.Rec.{Rec}
 use Rattle.kern_model.specs.Create.{attr_of, creation}
-use Rattle.kern_model.specs.Descriptors.{Opened, Descriptor, opened, descriptors, closing, is_let_go, truncation, with_descriptor}
+use Rattle.kern_model.specs.Descriptors.{Opened, Descriptor, open_description, descriptors, changes_of_close, is_let_go, truncation, with_descriptor}
 use Rattle.kern_model.specs.Entries.{names_in, holder, is_under, is_under_within, is_so_above}
-use Rattle.kern_model.specs.FileRows.{or_not_open, on_descriptor, opening, second_description, unprivileged}
-use Rattle.kern_model.specs.OpenRows.{opens, emptying, open_present, open_found, to_absent}
+use Rattle.kern_model.specs.FileRows.{or_not_open, on_descriptor, description_creation, second_description, unprivileged}
+use Rattle.kern_model.specs.OpenRows.{opens, truncation_if, open_present, open_found, to_absent}
 use Rattle.kern_model.specs.Keys.{same_oid, same_pid, same_did, is_pid}
-use Rattle.kern_model.specs.Kinds.{is_dir, is_fifo, is_file, object_with, masked}
+use Rattle.kern_model.specs.Kinds.{is_dir, is_fifo, is_file, object_with, masked_permissions}
 use Rattle.kern_model.specs.Maps.{any_entry}
-use Rattle.kern_model.specs.ProcessRows.{child_of, has_child, take_ended, changes_after_end, process_after_end, ending_of, set_ids, kill_with, signalled, send}
+use Rattle.kern_model.specs.ProcessRows.{child_of, has_child, take_ended, changes_after_end, process_after_end, ending_of, set_ids, kill_with, signal_row, send}
 use Rattle.kern_model.specs.Row.{Row, Need, Soft, Refuse, Commit, need_if}
 use Rattle.kern_model.specs.Rules.{is_above_holders}
 use Rattle.kern_model.specs.Stat.{stat_of, stat_by, size_of, names_reported, tell_stat}
@@ -138,8 +138,8 @@ module _ (c : Cap) (s : State) (who : Pid) (p : Process) (picks : Pid → Bool) 
   same_open (Some f) k k' h = h f
 
   same_descriptor : (fd : ℕ) (k k' : Opened → Row) → ((f : Opened) → SameRowWithout (k f) (k' f)) → SameRowWithout (on_descriptor s p fd k) (on_descriptor s' p' fd k')
-  unfolding opened
-  same_descriptor fd k k' h = same_open (opened s p fd) k k' h
+  unfolding open_description
+  same_descriptor fd k k' h = same_open (open_description s p fd) k k' h
 
   -- ---- what rows read of other processes
   -- the descriptors of a process
@@ -156,8 +156,8 @@ module _ (c : Cap) (s : State) (who : Pid) (p : Process) (picks : Pid → Bool) 
       (λ fs. list_any (λ (f : Descriptor). goes f && same_did f.did did) fs && not (list_any (λ (f : Descriptor). not (goes f) && same_did f.did did) fs))
       same_descriptors
 
-  same_closing : (goes : Descriptor → Bool) → closing s' goes ≡ closing s goes
-  unfolding closing
+  same_closing : (goes : Descriptor → Bool) → changes_of_close s' goes ≡ changes_of_close s goes
+  unfolding changes_of_close
   same_closing goes = λ i. flat_map (λ e. cond (same_let_go goes e.0 i) (DropDescription e.0
       ∷ cond (is_fifo (object_at s e.1.object).kind
       && not (any_entry (λ did d. same_oid d.object e.1.object && not (same_let_go goes did i)) s.descriptions)) (truncation s e.1.object ∷ []) []) [])
@@ -199,19 +199,19 @@ module _ (c : Cap) (s : State) (who : Pid) (p : Process) (picks : Pid → Bool) 
       let others = flat_map-select pid_cmp_total pid_cmp_exact (λ q x. Some (lessened q x)) survive survive s.procs (λ q x _. same_changes_after_end target t how q x) in
       let rest : without (flat_map (changes_after_end target t how) (map.entries s'.procs)) ≡ without (flat_map (changes_after_end target t how) (map.entries s.procs)) =
       without-flat_map _ (map.entries s'.procs) ∙ others ∙ sym (without-flat_map _ (map.entries s.procs)) in
-      then_same (without-append (closing s' goes) _ ∙ (λ i. without (same_closing goes i) ++ rest i) ∙ sym (without-append (closing s goes) _))
+      then_same (without-append (changes_of_close s' goes) _ ∙ (λ i. without (same_closing goes i) ++ rest i) ∙ sym (without-append (changes_of_close s goes) _))
 
   -- ---- calls on files
   same_opens : (id : Oid) (flags : OpenFlags) (before : List Change) → SameRowWithout (opens s who p id flags before) (opens s' who p' id flags before)
   same_opens id flags before =
       let described = then_same (then_same (first_same (set_self (with_descriptor p (next_description s p.label))))) in
-      commit_same (without-append before (opening s' who p' id flags) ∙ ap (λ cs. without before ++ cs) described
-      ∙ sym (without-append before (opening s who p id flags)))
+      commit_same (without-append before (description_creation s' who p' id flags) ∙ ap (λ cs. without before ++ cs) described
+      ∙ sym (without-append before (description_creation s who p id flags)))
 
   same_present : (flags : OpenFlags) (id : Oid) (place : Place) → SameRowWithout (open_present s who p flags id place) (open_present s' who p' flags id place)
   same_present flags id place =
       let o : Object = object_at s id in
-      let truncation = λ (a : Option Attr). same_opens id flags (emptying id o a) in
+      let truncation = λ (a : Option Attr). same_opens id flags (truncation_if id o a) in
       refuse_same (same_need_if _ _ _ _ (same_need_if _ _ _ _ (refuse_same (refuse_same
       (same_need_if _ _ _ _ (same_need_if _ _ _ _ (same_need_if _ _ _ _
       (same_cond (flags.t && is_file o.kind) _ _ _ _ (soft_same (truncation (Some o.attr)) (truncation (Some (unprivileged o.attr)))) (truncation None)))))))))
@@ -221,7 +221,7 @@ module _ (c : Cap) (s : State) (who : Pid) (p : Process) (picks : Pid → Bool) 
   same_found path flags mode (Start id) = same_present flags id _
   same_found path flags mode (Entry dir name None) =
       ap (to_absent s p flags dir (dir_place (λ n. First n) path))
-      (refuse_same (same_opens (next_object s p.label) flags (creation s p.label dir name (object_with p.label (attr_of p (masked mode p.umask)) (body.File [])))))
+      (refuse_same (same_opens (next_object s p.label) flags (creation s p.label dir name (object_with p.label (attr_of p (masked_permissions mode p.umask)) (body.File [])))))
   same_found path flags mode (Entry dir name (Some id)) = same_present flags id _
 
   -- ---- calls on entries
@@ -278,7 +278,7 @@ module _ (c : Cap) (s : State) (who : Pid) (p : Process) (picks : Pid → Bool) 
   same_end true target t how = commit_same (same_ending target t how)
   same_end false target t how = commit_same (same_ending target t how)
 
-  same_signalled : (b : Bool) (target : Pid) (t : Process) (sig : Signal) → SameRowWithout (signalled s target t sig) (signalled s' target (cond b (process_without c t) t) sig)
+  same_signalled : (b : Bool) (target : Pid) (t : Process) (sig : Signal) → SameRowWithout (signal_row s target t sig) (signal_row s' target (cond b (process_without c t) t) sig)
   same_signalled b target t signal.Zero = refl
   same_signalled b target t signal.Term = same_end b target t ending.Term
   same_signalled b target t signal.Kill = same_end b target t ending.Kill

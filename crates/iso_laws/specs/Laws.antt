@@ -12,7 +12,7 @@ use Rattle.kern_model.specs.declared.world.ScriptItem.{ScriptItem}
 use Rattle.kern_model.specs.Arguments.{has_names, is_call, is_script}
 use Rattle.kern_model.specs.Boot.{boot}
 use Rattle.kern_model.specs.Drawing.{StayDrawn, NumbersGoOn, NothingComesBack}
-use Rattle.kern_model.specs.Isolation.{low, crossing, part, part_script, answers, alone, up_to, Kept}
+use Rattle.kern_model.specs.Isolation.{low, any_crosses, part, part_script, answers, alone, up_to, Kept}
 use Rattle.kern_model.specs.Keys.{same_pid}
 use Rattle.kern_model.specs.Lineage.{caps_of, all_recs, OnlyDrops, GrowsByExec}
 use Rattle.kern_model.specs.Prefixes.{IsPrefix, Agree}
@@ -33,7 +33,7 @@ pub record IsLowStep (l : Label) (s : State) (who : Pid) (c : Call) : Type 0 whe
   pub valid : IsValid s
   pub kept : Kept l s
   pub is_low : low l who.label ≡ true
-  pub inside : crossing l (step s who c).recs ≡ false
+  pub inside : any_crosses l (step s who c).recs ≡ false
 
 -- it gives the same reply in the part
 abbrev pub LowStepReply : Type 0
@@ -49,12 +49,12 @@ LowStepState = (l : Label) (s : State) (who : Pid) (c : Call) → IsLowStep l s 
 
 -- a step of a process that is not Low, which crosses nothing, leaves the part as it was
 abbrev pub OtherStep : Type 0
-OtherStep = (l : Label) (s : State) (who : Pid) (c : Call) → is_call s.top c ≡ true → IsValid s → Kept l s → low l who.label ≡ false → crossing l (step s who c).recs ≡ false
+OtherStep = (l : Label) (s : State) (who : Pid) (c : Call) → is_call s.top c ≡ true → IsValid s → Kept l s → low l who.label ≡ false → any_crosses l (step s who c).recs ≡ false
     → part l (step s who c).state ≡ part l s
 
 -- a state that is kept stays kept over a step that crosses nothing
 abbrev pub KeptStep : Type 0
-KeptStep = (l : Label) (s : State) (who : Pid) (c : Call) → is_call s.top c ≡ true → IsValid s → Kept l s → crossing l (step s who c).recs ≡ false → Kept l (step s who c).state
+KeptStep = (l : Label) (s : State) (who : Pid) (c : Call) → is_call s.top c ≡ true → IsValid s → Kept l s → any_crosses l (step s who c).recs ≡ false → Kept l (step s who c).state
 
 -- a valid state stays valid, where also what an entry may be named by is a name
 abbrev pub ValidStep : Type 0

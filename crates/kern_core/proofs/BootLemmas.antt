@@ -18,8 +18,8 @@ use Rattle.kern_model.specs.declared.world.WorldObject.{WorldObject}
 use Rattle.kern_model.specs.declared.world.WorldProc.{WorldProc}
 use Rattle.kern_model.specs.Maps.{get_or as or_default}
 use Rattle.kern_model.specs.Keys.{Spot}
-use Rattle.kern_model.specs.State.{State, Process, Change, SetObject, SetProcess, DrawObject, DrawProcess, changed_by, drawn, next_object, next_process, look, root}
-use Rattle.kern_model.specs.Boot.{object_of, process_of, entry_for, boot_object, boot_objects, boot_process, boot_processes, started}
+use Rattle.kern_model.specs.State.{State, Process, Change, SetObject, SetProcess, DrawObject, DrawProcess, apply_changes, last_drawn, next_object, next_process, look, root}
+use Rattle.kern_model.specs.Boot.{object_of, process_of, entry_for, boot_object, boot_objects, boot_process, boot_processes, boot_recs_from}
 use Rattle.kern_model.specs.Rules.{same_label}
 use Rattle.kern_model.specs.World.{IsWorld, IsWorldProc, procs_at}
 use Rattle.cap_bits.specs.CapSet.{is_within}
@@ -37,9 +37,9 @@ abbrev pub object_id : WorldObject → ℕ → Oid
 object_id o n = record { label = o.label; n = n }
 
 abbrev pub made_object : State → WorldObject → ℕ → Object → List Change → State
-made_object s o n made entry = changed_by s (DrawObject o.label n ∷ SetObject (object_id o n) made ∷ entry)
+made_object s o n made entry = apply_changes s (DrawObject o.label n ∷ SetObject (object_id o n) made ∷ entry)
 
-pub object_booted : (s : State) (o : WorldObject) (n : ℕ) → n ≡ drawn s.object_numbers o.label + 1 → (made : Object) → made ≡ object_of o → (dir : Oid) → dir ≡ root → (names : List Name) → names ≡ o.path.names → (spot : Option Spot) → IsSpotOf s dir names spot → made_object s o n made (entry_at spot (object_id o n)) ≡ boot_object s o
+pub object_booted : (s : State) (o : WorldObject) (n : ℕ) → n ≡ last_drawn s.object_numbers o.label + 1 → (made : Object) → made ≡ object_of o → (dir : Oid) → dir ≡ root → (names : List Name) → names ≡ o.path.names → (spot : Option Spot) → IsSpotOf s dir names spot → made_object s o n made (entry_at spot (object_id o n)) ≡ boot_object s o
 unfolding boot_object
 object_booted s o n is made made_is dir dir_is names names_is spot spot_is =
     ap (made_object s o n made) (sym (spot_is (object_id o n)))
@@ -47,7 +47,7 @@ object_booted s o n is made made_is dir dir_is names names_is spot spot_is =
 
 -- ---- one process
 abbrev pub with_made : State → Process → State
-with_made s p = changed_by s (DrawProcess p.label (drawn s.process_numbers p.label + 1) ∷ SetProcess (next_process s p.label) p ∷ [])
+with_made s p = apply_changes s (DrawProcess p.label (last_drawn s.process_numbers p.label + 1) ∷ SetProcess (next_process s p.label) p ∷ [])
 
 pub process_booted : (s : State) (w : WorldProc) (made : Process) → made ≡ process_of w → with_made s made ≡ boot_process s w
 unfolding boot_process
@@ -59,20 +59,20 @@ owners_booted (Ok who) old new rows p made err known = subst (λ (t : ProcTable)
 owners_booted (Err e) old new rows p made err known = subst (λ (t : ProcTable). ∥ HasOwners t.procs rows ∥₁) (sym err) known
 
 -- ---- the numbers that are drawn
-entry_draws : (s t : State) (dir : Oid) (names : List Name) (id : Oid) → (changed_by t (entry_for s dir names id)).object_numbers ≡ t.object_numbers
+entry_draws : (s t : State) (dir : Oid) (names : List Name) (id : Oid) → (apply_changes t (entry_for s dir names id)).object_numbers ≡ t.object_numbers
 entry_draws s t dir [] id = refl
 entry_draws s t dir (name ∷ []) id = refl
 entry_draws s t dir (name ∷ next ∷ names) id = entry_draws s t (unwrap_or (look s dir name) dir) (next ∷ names) id
 
-object_draws : (s : State) (o : WorldObject) → (boot_object s o).object_numbers ≡ map.insert s.object_numbers o.label (drawn s.object_numbers o.label + 1)
+object_draws : (s : State) (o : WorldObject) → (boot_object s o).object_numbers ≡ map.insert s.object_numbers o.label (last_drawn s.object_numbers o.label + 1)
 unfolding boot_object
 object_draws s o = entry_draws s _ root o.path.names (next_object s o.label)
 
-process_draws : (s : State) (w : WorldProc) → (boot_process s w).process_numbers ≡ map.insert s.process_numbers w.label (drawn s.process_numbers w.label + 1)
+process_draws : (s : State) (w : WorldProc) → (boot_process s w).process_numbers ≡ map.insert s.process_numbers w.label (last_drawn s.process_numbers w.label + 1)
 unfolding boot_process
 process_draws s w = refl
 
-entry_keeps : (s t : State) (dir : Oid) (names : List Name) (id : Oid) → (changed_by t (entry_for s dir names id)).process_numbers ≡ t.process_numbers
+entry_keeps : (s t : State) (dir : Oid) (names : List Name) (id : Oid) → (apply_changes t (entry_for s dir names id)).process_numbers ≡ t.process_numbers
 entry_keeps s t dir [] id = refl
 entry_keeps s t dir (name ∷ []) id = refl
 entry_keeps s t dir (name ∷ next ∷ names) id = entry_keeps s t (unwrap_or (look s dir name) dir) (next ∷ names) id
@@ -111,7 +111,7 @@ module _ {X : Type 0} (label_of : X → Label) (limit : ℕ) where
 
   -- there are numbers left for these at each label
   abbrev RoomFor : FinMap label_cmp ℕ → List X → Type 0
-  RoomFor m xs = (l : Label) → drawn m l + how_many l xs ≤ limit
+  RoomFor m xs = (l : Label) → last_drawn m l + how_many l xs ≤ limit
 
   with_first : (l : Label) (x : X) (xs : List X) → how_many l (x ∷ xs) ≡ cond (same_label (label_of x) l) 1 0 + how_many l xs
   with_first l x xs = sum_by-cons (λ y. cond (same_label (label_of y) l) 1 0) x xs
@@ -120,18 +120,18 @@ module _ {X : Type 0} (label_of : X → Label) (limit : ℕ) where
   one_more x xs = with_first (label_of x) x xs ∙ with_one _ (how_many (label_of x) xs) (same_itself (label_of x))
 
   -- there is a number for the first of these
-  first_room : (m : FinMap label_cmp ℕ) (x : X) (xs : List X) → RoomFor m (x ∷ xs) → drawn m (label_of x) < limit
-  first_room m x xs room = left_for_one limit (drawn m (label_of x)) (how_many (label_of x) xs) _ (one_more x xs) (room (label_of x))
+  first_room : (m : FinMap label_cmp ℕ) (x : X) (xs : List X) → RoomFor m (x ∷ xs) → last_drawn m (label_of x) < limit
+  first_room m x xs room = left_for_one limit (last_drawn m (label_of x)) (how_many (label_of x) xs) _ (one_more x xs) (room (label_of x))
 
   -- one more number is drawn, for the first of these
-  less_room : (m : FinMap label_cmp ℕ) (x : X) (xs : List X) → RoomFor m (x ∷ xs) → RoomFor (map.insert m (label_of x) (drawn m (label_of x) + 1)) xs
+  less_room : (m : FinMap label_cmp ℕ) (x : X) (xs : List X) → RoomFor m (x ∷ xs) → RoomFor (map.insert m (label_of x) (last_drawn m (label_of x) + 1)) xs
   less_room m x xs room =
-      each_set_at label_cmp_total label_cmp_exact (λ l n. n + how_many l xs ≤ limit) 0 m (label_of x) (drawn m (label_of x) + 1)
-      (drawn_too limit (drawn m (label_of x)) (how_many (label_of x) xs) _ (one_more x xs) (room (label_of x)))
-      (λ l. fewer limit (same_label (label_of x) l) (drawn m l) (how_many l xs) _ (with_first l x xs) (room l))
+      each_set_at label_cmp_total label_cmp_exact (λ l n. n + how_many l xs ≤ limit) 0 m (label_of x) (last_drawn m (label_of x) + 1)
+      (drawn_too limit (last_drawn m (label_of x)) (how_many (label_of x) xs) _ (one_more x xs) (room (label_of x)))
+      (λ l. fewer limit (same_label (label_of x) l) (last_drawn m l) (how_many l xs) _ (with_first l x xs) (room l))
 
 -- nothing is drawn yet
-none_drawn : (l : Label) → drawn map.empty l ≡ 0
+none_drawn : (l : Label) → last_drawn map.empty l ≡ 0
 unfolding or_default
 none_drawn l = ap (λ (v : Option ℕ). elim v [ None ↦ 0 | Some x ↦ x ]) (map.get-empty {X = ℕ} label_cmp l)
 
@@ -139,7 +139,7 @@ from_none : (limit d n : ℕ) → d ≡ 0 → n ≤ limit → d + n ≤ limit
 from_none limit d n e h = omega arith
 
 -- there is room for what a world may have, where nothing is drawn
-pub all_room : (limit : ℕ) (f : Label → ℕ) → ((l : Label) → f l ≤ limit) → (l : Label) → drawn map.empty l + f l ≤ limit
+pub all_room : (limit : ℕ) (f : Label → ℕ) → ((l : Label) → f l ≤ limit) → (l : Label) → last_drawn map.empty l + f l ≤ limit
 all_room limit f h l = from_none limit _ (f l) (none_drawn l) (h l)
 
 within_all : (top : Label) (ws : List WorldProc) → AllByRecursion (IsWorldProc top) ws → AllByRecursion (λ (w : WorldProc). is_within w.caps.e w.caps.p ≡ true) ws
@@ -155,7 +155,7 @@ rest_from : {X : Type 0} (xs : List X) (i : ℕ) (x : X) → i < length xs → x
 rest_from xs i x h is = drop-cons xs i x h ∙ ap (λ y. y ∷ drop (suc i) xs) (sym is) ∙ ap (λ n. x ∷ drop n xs) (sym (add-one i))
 
 -- the first object of some has a number, where there is room for all
-pub first_numbered : (s : State) (o : WorldObject) (os : List WorldObject) → RoomForObjects s.object_numbers (o ∷ os) → drawn s.object_numbers o.label < MAX_OBJECTS
+pub first_numbered : (s : State) (o : WorldObject) (os : List WorldObject) → RoomForObjects s.object_numbers (o ∷ os) → last_drawn s.object_numbers o.label < MAX_OBJECTS
 first_numbered s o os room = first_room (λ (x : WorldObject). x.label) MAX_OBJECTS s.object_numbers o os room
 
 -- there is room for the others after it is made
@@ -163,7 +163,7 @@ pub others_room : (s t : State) (o : WorldObject) (os : List WorldObject) → t 
 others_room s t o os booted room = subst (λ m. RoomForObjects m os) (sym (ap (λ u. u.object_numbers) booted ∙ object_draws s o)) (less_room (λ (x : WorldObject). x.label) MAX_OBJECTS s.object_numbers o os room)
 
 -- the first object that is left has a number
-pub object_room : (s : State) (os : List WorldObject) (i : ℕ) (o : WorldObject) → i < length os → o ≡ get_or os i o → RoomForObjects s.object_numbers (drop i os) → drawn s.object_numbers o.label < MAX_OBJECTS
+pub object_room : (s : State) (os : List WorldObject) (i : ℕ) (o : WorldObject) → i < length os → o ≡ get_or os i o → RoomForObjects s.object_numbers (drop i os) → last_drawn s.object_numbers o.label < MAX_OBJECTS
 object_room s os i o h is room = first_numbered s o (drop (i + 1) os) (subst (λ xs. RoomForObjects s.object_numbers xs) (rest_from os i o h is) room)
 
 -- the first process that is left can start
@@ -171,7 +171,7 @@ module _ (s : State) (ws : List WorldProc) (i : ℕ) (w : WorldProc) (h : i < le
   pub can_first : CanStart s.process_numbers (w ∷ drop (i + 1) ws)
   can_first = subst (CanStart s.process_numbers) (rest_from ws i w h is) can
 
-  pub process_room : drawn s.process_numbers w.label < MAX_PROCS
+  pub process_room : last_drawn s.process_numbers w.label < MAX_PROCS
   process_room = first_room (λ (x : WorldProc). x.label) MAX_PROCS s.process_numbers w (drop (i + 1) ws) can_first.room
 
 module _ (s t : State) (os : List WorldObject) (i : ℕ) (o : WorldObject) (h : i < length os) (is : o ≡ get_or os i o) (booted : t ≡ boot_object s o) where
@@ -193,7 +193,7 @@ module _ (s t : State) (ws : List WorldProc) (i : ℕ) (w : WorldProc) (h : i < 
       (record { room = less_room (λ (x : WorldProc). x.label) MAX_PROCS s.process_numbers w (drop (i + 1) ws) first.room; within = first.within.1 })
 
   -- its record, and then those of the rest
-  pub started_step : (who : Pid) → who ≡ next_process s w.label → (recs : List Rec) → (recs ++ rec.Boot who w.label w.caps ∷ []) ++ started t (drop (i + 1) ws) ≡ recs ++ started s (drop i ws)
+  pub started_step : (who : Pid) → who ≡ next_process s w.label → (recs : List Rec) → (recs ++ rec.Boot who w.label w.caps ∷ []) ++ boot_recs_from t (drop (i + 1) ws) ≡ recs ++ boot_recs_from s (drop i ws)
   started_step who number recs =
-      append_assoc recs (rec.Boot who w.label w.caps ∷ []) (started t (drop (i + 1) ws))
-      ∙ ap (λ xs. recs ++ xs) ((λ j. rec.Boot (number j) w.label w.caps ∷ started (booted j) (drop (i + 1) ws)) ∙ ap (started s) (sym (rest_from ws i w h is)))
+      append_assoc recs (rec.Boot who w.label w.caps ∷ []) (boot_recs_from t (drop (i + 1) ws))
+      ∙ ap (λ xs. recs ++ xs) ((λ j. rec.Boot (number j) w.label w.caps ∷ boot_recs_from (booted j) (drop (i + 1) ws)) ∙ ap (boot_recs_from s) (sym (rest_from ws i w h is)))

@@ -20,7 +20,7 @@ use Rattle.kern_model.specs.Names.{name_of}
 use Rattle.kern_model.specs.Refusals.{IsNamed}
 use Rattle.kern_model.specs.Row.{CheckOutcome, End, Stopped, Refused, Done, judge}
 use Rattle.kern_model.specs.State.{State, Process}
-use Rattle.kern_model.specs.Step.{StepResult, IsPlayed, step, step_by, settled, subject, reply_of, state_after}
+use Rattle.kern_model.specs.Step.{StepResult, IsPlayed, step, step_by, step_result, subject, reply_of, state_after}
 use Rattle.kern_model.specs.Table.{row}
 use Rattle.kern_model.specs.Valid.{IsValid}
 use Rattle.kern_model.specs.World.{IsWorld}
@@ -30,7 +30,7 @@ use Rattle.kern_core.specs.Kernel.{IsStopped}
 use Rattle.kern_core.proofs.StepLemmas.{no_process}
 
 -- ---- a call that stopped
-kept_at : (s : State) (who : Pid) (p : Process) (name : CallName) (j : CheckOutcome) → IsStopped (settled s who p name j).reply → (settled s who p name j).state ≡ s
+kept_at : (s : State) (who : Pid) (p : Process) (name : CallName) (j : CheckOutcome) → IsStopped (step_result s who p name j).reply → (step_result s who p name j).state ≡ s
 kept_at s who p name j = kept j.end
   where
     kept : (e : End) → IsStopped (reply_of e) → state_after s e ≡ s

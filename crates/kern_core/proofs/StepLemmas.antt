@@ -11,7 +11,7 @@ use Rattle.kern_model.specs.declared.records.Outcome as reported
 use Rattle.kern_model.specs.Names.{name_of}
 use Rattle.kern_model.specs.Row.{CheckOutcome, Stopped, Refused, Done, check_outcome}
 use Rattle.kern_model.specs.State.{State, Process}
-use Rattle.kern_model.specs.Step.{IsPlayed, step, step_by, settled}
+use Rattle.kern_model.specs.Step.{IsPlayed, step, step_by, step_result}
 use Rattle.kern_model.specs.Table.{row}
 use Rattle.chk_rules.specs.CheckLog.{CheckLog, check_log, judge_from}
 use Rattle.chk_rules.specs.RowSteps.{EndsBy}
@@ -33,9 +33,9 @@ module _ (s : State) (who : Pid) (c : Call) where
     asked = check_log who p.label p.caps.e
 
     -- the step by how the row ends
-    ended : (j : CheckOutcome) → judge_from asked (row s who p c) ≡ j → step s who c ≡ settled s who p (name_of c) j
+    ended : (j : CheckOutcome) → judge_from asked (row s who p c) ≡ j → step s who c ≡ step_result s who p (name_of c) j
     unfolding step
-    ended j ends = ap (step_by s who c) is ∙ ap (settled s who p (name_of c)) ends
+    ended j ends = ap (step_by s who c) is ∙ ap (step_result s who p (name_of c)) ends
 
     -- the step by how the body played the row
     pub is_played : (t : State) (after : CheckLog) (r : Result Effect Stop) → PlaysRow s asked (row s who p c) r t after → (o : reported.Outcome) → OutcomeOf after who p.audited (name_of c) r o → IsPlayed s who c o t

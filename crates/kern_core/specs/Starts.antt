@@ -14,7 +14,7 @@ use Rattle.kern_model.specs.declared.world.WorldObject.{WorldObject}
 use Rattle.kern_model.specs.declared.world.WorldProc.{WorldProc}
 use Rattle.kern_model.specs.Boot.{entry_for, nothing}
 use Rattle.kern_model.specs.Keys.{Spot}
-use Rattle.kern_model.specs.State.{State, Change, SetEntry, drawn}
+use Rattle.kern_model.specs.State.{State, Change, SetEntry, last_drawn}
 use Rattle.kern_model.specs.World.{objects_at, procs_at}
 use Rattle.kern_core.specs.declared.loading.Loading.{Loading}
 
@@ -28,11 +28,11 @@ state_loaded l = record (nothing l.bound l.top) { objects = l.nodes.table.object
 
 -- there are numbers left for these objects at each label
 abbrev pub RoomForObjects : FinMap label_cmp ℕ → List WorldObject → Type 0
-RoomForObjects numbers os = (l : Label) → drawn numbers l + objects_at l os ≤ MAX_OBJECTS
+RoomForObjects numbers os = (l : Label) → last_drawn numbers l + objects_at l os ≤ MAX_OBJECTS
 
 -- these processes can start: there are numbers left for them at each label, and what is effective is permitted
 pub record CanStart (numbers : FinMap label_cmp ℕ) (ws : List WorldProc) : Type 0 where
-  pub room : (l : Label) → drawn numbers l + procs_at l ws ≤ MAX_PROCS
+  pub room : (l : Label) → last_drawn numbers l + procs_at l ws ≤ MAX_PROCS
   pub within : AllByRecursion (λ (w : WorldProc). is_within w.caps.e w.caps.p ≡ true) ws
 
 -- the change that makes an entry at the spot, if there is one

@@ -3,8 +3,8 @@ ghost use Rattle.std.specs.Prelude.{◌≡◌, ◌<◌, ◌++◌, ◌∷◌, [],
 ghost use Rattle.cap_bits.specs.CapSet.{is_within};
 ghost use Rattle.kern_model.specs.declared.limits.TheConstants.{MAX_PROCS};
 ghost use Rattle.kern_model.specs.declared.records.Rec.TheVariants as rec;
-ghost use Rattle.kern_model.specs.State.{drawn, next_process};
-ghost use Rattle.kern_model.specs.Boot.{boot_process, boot_processes, objects_loaded, started};
+ghost use Rattle.kern_model.specs.State.{last_drawn, next_process};
+ghost use Rattle.kern_model.specs.Boot.{boot_process, boot_processes, objects_loaded, boot_recs_from};
 ghost use Rattle.kern_model.specs.World.{IsWorld};
 ghost use Rattle.kern_core.specs.Starts.{CanStart};
 
@@ -52,7 +52,7 @@ pub fn boot_processes(
 ) -> Result<RecList, NoMemory>
     requires { CanStart shared.old.process_numbers procs.now }
     ensures state { OnOk result (shared.new ≡ boot_processes shared.old procs.now) }
-    ensures recs { IfOk result (λ recs. recs ≡ started shared.old procs.now) }
+    ensures recs { IfOk result (λ recs. recs ≡ boot_recs_from shared.old procs.now) }
 {
     let mut recs = RecList::new(alloc);
     for process in procs {
@@ -64,7 +64,7 @@ pub fn boot_processes(
 
 // Makes a process under the next number of its label, and returns the number.
 fn boot_process(shared: &mut Shared, process: &WorldProc) -> Result<Pid, NoMemory>
-    requires number { drawn shared.old.process_numbers process.now.label < MAX_PROCS }
+    requires number { last_drawn shared.old.process_numbers process.now.label < MAX_PROCS }
     requires within { is_within process.now.caps.e process.now.caps.p ≡ true }
     ensures state { OnOk result (shared.new ≡ boot_process shared.old process.now) }
     ensures number { IfOk result (λ who. who ≡ next_process shared.old process.now.label) }

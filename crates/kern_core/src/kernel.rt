@@ -2,7 +2,7 @@
 ghost use Rattle.std.specs.Prelude.{◌≡◌, true, false, IfOk, IsErr, IsOk, OnErr, OnOk, option_map};
 ghost use Rattle.std.specs.FinMap as map;
 ghost use Rattle.kern_model.specs.Arguments.{is_call};
-ghost use Rattle.kern_model.specs.Boot.{boot, boot_processes, boot_recs, started};
+ghost use Rattle.kern_model.specs.Boot.{boot, boot_processes, boot_recs, boot_recs_from};
 ghost use Rattle.kern_model.specs.Drawing.{NumbersGoOn};
 ghost use Rattle.kern_model.specs.Refusals.{IsNamed};
 ghost use Rattle.kern_model.specs.State.{Process};
@@ -79,7 +79,7 @@ impl Kernel {
         requires start { CanStart shared.process_numbers procs.now }
         requires valid { IsValid (boot_processes shared procs.now) }
         ensures state { IfOk result (λ b. state_of b.0 ≡ boot_processes shared procs.now) }
-        ensures recs { IfOk result (λ b. b.1 ≡ started shared procs.now) }
+        ensures recs { IfOk result (λ b. b.1 ≡ boot_recs_from shared procs.now) }
         ensures valid { IfOk result (λ b. IsValid (state_of b.0)) }
         ensures sound { IfOk result (λ b. has_failed b.0 ≡ false) }
     {

@@ -1,7 +1,7 @@
 // The objects of a world, before their entries stand in directories.
 ghost use Rattle.std.specs.Prelude.{◌≡◌, ◌<◌, IfOk, OnOk};
 ghost use Rattle.kern_model.specs.declared.limits.TheConstants.{MAX_OBJECTS};
-ghost use Rattle.kern_model.specs.State.{drawn};
+ghost use Rattle.kern_model.specs.State.{last_drawn};
 ghost use Rattle.kern_model.specs.Boot.{boot_object, boot_objects, nothing};
 ghost use Rattle.fs_dirs.specs.Tree.{AreEntries};
 ghost use Rattle.kern_core.specs.Starts.{IsSpotOf, RoomForObjects, state_loaded, world_object};
@@ -97,7 +97,7 @@ impl Loading {
         attr: Attr,
         body: Body,
     ) -> Result<(), NoMemory>
-        requires { drawn self.old.nodes.table.numbers label < MAX_OBJECTS }
+        requires { last_drawn self.old.nodes.table.numbers label < MAX_OBJECTS }
         ensures { OnOk result (state_loaded self.new ≡ boot_object (state_loaded self.old) (world_object path.now label attr body)) }
     {
         let spot = self.spot_of(root_directory(), path.components())?;

@@ -1,6 +1,6 @@
 -- Tables by the numbers of processes, objects or descriptions, after one of them is changed.
 pub use Rattle.kern_model.proofs.NumberLaws.{dids, oids, pids}
-use Rattle.std.specs.Prelude.{◌≡◌, ◌&&◌, ℕ, List, [], ◌∷◌, Option, None, Some, cond, map as map_list, refl}
+use Rattle.std.specs.Prelude.{◌≡◌, ◌&&◌, List, [], ◌∷◌, Option, None, Some, cond, map as map_list, refl}
 use Rattle.std.specs.declared.cmp.Ordering.{Ordering}
 use Rattle.std.specs.Ordering.{eq_by_cmp, is_eq, is_lt}
 use Rattle.std.specs.Cmp.{IsTotalOrder}

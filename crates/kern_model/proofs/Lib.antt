@@ -1,4 +1,5 @@
 pub mod ByNumber
+pub mod ExecLaws
 pub mod ItemLaws
 pub mod KeyLaws
 pub mod KindLemmas

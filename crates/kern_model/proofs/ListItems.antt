@@ -13,7 +13,7 @@ use Rattle.lab_lattice.proofs.Labels.{label_cmp_total, label_cmp_exact}
 use Rattle.kern_model.specs.Maps.{with_entry}
 use Rattle.kern_model.proofs.MapLemmas.{get_or-absent, get_or-found, get_or-same, head_T, same_key, tail_T}
 use Rattle.kern_model.specs.Numbers.{Num, num_cmp}
-use Rattle.kern_model.specs.LabelLists.{IsSet, Lists, item_at, items_in, numbered, list_at}
+use Rattle.kern_model.specs.LabelLists.{IsSet, Lists, item_at, items_in, entries_from, list_at}
 use Rattle.kern_model.proofs.SortedEntries.{below_none, find_both, or_none}
 use Rattle.kern_model.proofs.NumberLaws.{num_cmp_total, num_cmp_exact, same_label, same_num, same_parts}
 
@@ -52,33 +52,33 @@ module _ {K X : Type 0} (R : K → K → Ordering) where
 module _ {X : Type 0} where
   -- one step along a list
   step : (q : Num) (label : Label) (n : ℕ) (w : Option X) (ws : List (Option X))
-      → find num_cmp q (numbered label n (w ∷ ws)) ≡ cond (same_label q.0 label && (q.1 == n)) (option_or w (find num_cmp q (numbered label (n + 1) ws))) (find num_cmp q (numbered label (n + 1) ws))
+      → find num_cmp q (entries_from label n (w ∷ ws)) ≡ cond (same_label q.0 label && (q.1 == n)) (option_or w (find num_cmp q (entries_from label (n + 1) ws))) (find num_cmp q (entries_from label (n + 1) ws))
   step q label n w ws =
-      find_with num_cmp q (label, n) w (numbered label (n + 1) ws)
-      ∙ ap (λ b. cond b (option_or w (find num_cmp q (numbered label (n + 1) ws))) (find num_cmp q (numbered label (n + 1) ws))) (same_parts q (label, n))
+      find_with num_cmp q (label, n) w (entries_from label (n + 1) ws)
+      ∙ ap (λ b. cond b (option_or w (find num_cmp q (entries_from label (n + 1) ws))) (find num_cmp q (entries_from label (n + 1) ws))) (same_parts q (label, n))
 
   -- a list of another label has no such number
-  find_other : (q : Num) (label : Label) (n : ℕ) (ws : List (Option X)) → same_label q.0 label ≡ false → find num_cmp q (numbered label n ws) ≡ None
+  find_other : (q : Num) (label : Label) (n : ℕ) (ws : List (Option X)) → same_label q.0 label ≡ false → find num_cmp q (entries_from label n ws) ≡ None
   find_other q label n [] other = refl
   find_other q label n (w ∷ ws) other =
       step q label n w ws
-      ∙ ap (λ b. cond (b && (q.1 == n)) (option_or w (find num_cmp q (numbered label (n + 1) ws))) (find num_cmp q (numbered label (n + 1) ws))) other
+      ∙ ap (λ b. cond (b && (q.1 == n)) (option_or w (find num_cmp q (entries_from label (n + 1) ws))) (find num_cmp q (entries_from label (n + 1) ws))) other
       ∙ find_other q label (n + 1) ws other
 
   module _ (q : Num) (label : Label) (same : same_label q.0 label ≡ true) where
     here : (n : ℕ) (w : Option X) (ws : List (Option X)) (b : Bool) → (q.1 == n) ≡ b
-        → find num_cmp q (numbered label n (w ∷ ws)) ≡ cond b (option_or w (find num_cmp q (numbered label (n + 1) ws))) (find num_cmp q (numbered label (n + 1) ws))
+        → find num_cmp q (entries_from label n (w ∷ ws)) ≡ cond b (option_or w (find num_cmp q (entries_from label (n + 1) ws))) (find num_cmp q (entries_from label (n + 1) ws))
     here n w ws b is =
         step q label n w ws
-        ∙ ap (λ b. cond (b && (q.1 == n)) (option_or w (find num_cmp q (numbered label (n + 1) ws))) (find num_cmp q (numbered label (n + 1) ws))) same
-        ∙ ap (λ b. cond b (option_or w (find num_cmp q (numbered label (n + 1) ws))) (find num_cmp q (numbered label (n + 1) ws))) is
+        ∙ ap (λ b. cond (b && (q.1 == n)) (option_or w (find num_cmp q (entries_from label (n + 1) ws))) (find num_cmp q (entries_from label (n + 1) ws))) same
+        ∙ ap (λ b. cond b (option_or w (find num_cmp q (entries_from label (n + 1) ws))) (find num_cmp q (entries_from label (n + 1) ws))) is
 
     -- nor has the rest of a list a number before it
-    find_before : (n : ℕ) (ws : List (Option X)) → q.1 < n → find num_cmp q (numbered label n ws) ≡ None
+    find_before : (n : ℕ) (ws : List (Option X)) → q.1 < n → find num_cmp q (entries_from label n ws) ≡ None
     find_before n [] low = refl
     find_before n (w ∷ ws) low = here n w ws false (grind (arith, nat_tests, low)) ∙ find_before (n + 1) ws (omega (arith, low))
 
-    find_after : (n i : ℕ) (ws : List (Option X)) → q.1 ≡ n + i → find num_cmp q (numbered label n ws) ≡ get_or ws i None
+    find_after : (n i : ℕ) (ws : List (Option X)) → q.1 ≡ n + i → find num_cmp q (entries_from label n ws) ≡ get_or ws i None
     find_after n i [] is = refl
     find_after n zero (w ∷ ws) is =
         here n w ws true (grind (arith, nat_tests, is)) ∙ or_none w _ (find_before (n + 1) ws (omega (arith, is)))
@@ -86,8 +86,8 @@ module _ {X : Type 0} where
         here n w ws false (grind (arith, nat_tests, is)) ∙ find_after (n + 1) i ws (omega (arith, is))
 
   -- what a list says of a number
-  find_numbered : (q : Num) (label : Label) (ws : List (Option X)) → find num_cmp q (numbered label 0 ws) ≡ cond (same_label q.0 label) (get_or ws q.1 None) None
-  find_numbered q label ws = elim (same_label q.0 label) as (λ b. same_label q.0 label ≡ b → find num_cmp q (numbered label 0 ws) ≡ cond b (get_or ws q.1 None) None) [
+  find_numbered : (q : Num) (label : Label) (ws : List (Option X)) → find num_cmp q (entries_from label 0 ws) ≡ cond (same_label q.0 label) (get_or ws q.1 None) None
+  find_numbered q label ws = elim (same_label q.0 label) as (λ b. same_label q.0 label ≡ b → find num_cmp q (entries_from label 0 ws) ≡ cond b (get_or ws q.1 None) None) [
     | true ↦ λ t. find_after q label t 0 q.1 ws (omega arith)
     | false ↦ λ f. find_other q label 0 ws f
   ] refl
@@ -97,7 +97,7 @@ module _ {X : Type 0} where
   in_list n (Some ws) = get_or ws n None
 
   abbrev pub placed : Label × List (Option X) → List (Num × X)
-  placed list = numbered list.0 0 list.1
+  placed list = entries_from list.0 0 list.1
 
   find_all : (q : Num) (lists : List (Label × List (Option X))) → T (is_sorted label_cmp lists) → find num_cmp q (flat_map placed lists) ≡ in_list q.1 (find label_cmp q.0 lists)
   find_all q [] h = refl

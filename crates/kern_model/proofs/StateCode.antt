@@ -8,6 +8,7 @@ use Rattle.std.specs.Coded.{Coded, code_by, coded×, coded_ℕ, codes}
 use Rattle.cap_bits.specs.Cap.{cap_cmp, cap_code}
 use Rattle.cap_bits.specs.CapSet.{CapSet}
 use Rattle.lab_lattice.specs.Label.{Label, label_cmp, label_code}
+use Rattle.kern_model.specs.declared.calls.Ending.{Ending}
 use Rattle.kern_model.specs.declared.numbers.Did.{Did}
 use Rattle.kern_model.specs.declared.numbers.Oid.{Oid}
 use Rattle.kern_model.specs.declared.numbers.Pid.{Pid}
@@ -34,6 +35,10 @@ pid_code = Prim.hlevel (codes, label_code)
 -- lists of processes
 pub pids_code : Coded (List Pid)
 pids_code = Prim.hlevel (codes, label_code)
+
+-- lists of children that ended
+pub ended_code : Coded (List (Pid × Ending))
+ended_code = Prim.hlevel (codes, label_code)
 
 pub did_code : Coded Did
 did_code = Prim.hlevel (codes, label_code)

@@ -1,5 +1,5 @@
 -- What stands in a state, and what does not.
-use Rattle.std.specs.Prelude.{◌≡◌, true, false, None, Some, IsSome, refl}
+use Rattle.std.specs.Prelude.{◌≡◌, true, false, List, [], ◌∷◌, ◌++◌, None, Some, IsSome, refl}
 use Rattle.std.specs.FinMap as map
 use Rattle.std.proofs.Common.{ap, sym, ◌∙◌, arith}
 use Rattle.lab_lattice.specs.Label.{Label}
@@ -7,7 +7,7 @@ use Rattle.kern_model.specs.declared.numbers.Oid.{Oid}
 use Rattle.kern_model.specs.declared.numbers.Pid.{Pid}
 use Rattle.kern_model.specs.declared.objects.Object.{Object}
 use Rattle.kern_model.specs.Kinds.{is_dir}
-use Rattle.kern_model.specs.State.{State, Process, next_object, object_at, process_at, stub_object, stub_process}
+use Rattle.kern_model.specs.State.{State, Process, Change, apply_change, apply_changes, next_object, object_at, process_at, stub_object, stub_process}
 use Rattle.kern_model.specs.Valid.{IsDir, IsValid}
 use Rattle.kern_model.proofs.KindLemmas.{dir_kind}
 use Rattle.kern_model.proofs.MapLemmas.{get_or-absent, get_or-found}
@@ -39,3 +39,8 @@ next_absent s valid l =
       | None ↦ λ _. refl
       | Some x ↦ λ e. absurd (omega (arith, (valid.objects (next_object s l) x e).drawn_already.1))
     ] refl
+
+-- two lists of changes after one another
+pub apply_changes-append : (s : State) (cs ds : List Change) → apply_changes s (cs ++ ds) ≡ apply_changes (apply_changes s cs) ds
+apply_changes-append s [] ds = refl
+apply_changes-append s (c ∷ cs) ds = apply_changes-append (apply_change s c) cs ds

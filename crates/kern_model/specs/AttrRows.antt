@@ -1,6 +1,7 @@
 -- The rows of the calls on modes, owners, capability sets of files, and labels of objects.
 use Rattle.std.specs.Prelude.{ℕ, ◌||◌, not, Bool, cond, [], ◌∷◌, None, Some}
 use Rattle.cap_bits.specs.declared.state.CapState.{CapState}
+use Rattle.cap_bits.specs.FileCaps.{caps_by, is_uniform, shown}
 use Rattle.fs_path.specs.Path.{PathValue}
 use Rattle.lab_lattice.specs.Label.{Label}
 use Rattle.kern_model.specs.declared.calls.Answer.TheVariants as answer
@@ -35,8 +36,8 @@ with_label id o label = SetObject id (record o { label = label })
 -- ---- steps on an object that is written
 
 -- an object is written, by label, and the row of it goes on
-abbrev pub written : State → Process → (Oid → Place → Object → Row) → Oid → Place → Row
-written s p k id place = write_object s p id place (k id place)
+abbrev pub write_object_then : State → Process → (Oid → Place → Object → Row) → Oid → Place → Row
+write_object_then s p k id place = write_object s p id place (k id place)
 
 -- the caller owns the object
 abbrev pub owns : Process → Oid → Place → Object → Row → Row
@@ -66,7 +67,7 @@ change_mode p mode id place o = asks_mode p mode id place o (set_mode id o)
 
 -- `chmod PATH MODE`
 abbrev pub chmod_row : State → Pid → Process → PathValue → ℕ → Row
-chmod_row s who p path mode = on_path s p path (written s p (change_mode p mode))
+chmod_row s who p path mode = on_path s p path (write_object_then s p (change_mode p mode))
 
 -- an object gets an owner, a group and a mode
 abbrev pub set_owner : Oid → Object → ℕ → ℕ → ℕ → Row
@@ -82,13 +83,13 @@ change_owner p user group id place o = asks_owner p user group id place o (set_o
 
 -- `chown PATH UID GID`
 abbrev pub chown_row : State → Pid → Process → PathValue → ℕ → ℕ → Row
-chown_row s who p path user group = on_path s p path (written s p (change_owner p user group))
+chown_row s who p path user group = on_path s p path (write_object_then s p (change_owner p user group))
 
 -- ---- capability sets of files
 
 -- the sets of a file that was read
 abbrev pub report_caps : Object → Row
-report_caps o = Refuse errno.EINVAL (not (is_file o.kind)) (Commit [] (answer.Caps o.attr.caps) None)
+report_caps o = Refuse errno.EINVAL (not (is_file o.kind)) (Commit [] (answer.Caps (shown o.attr.caps)) None)
 
 -- the sets of a file are read
 abbrev pub get_caps : State → Process → Oid → Place → Row
@@ -96,12 +97,12 @@ get_caps s p id place = read_object s p id place report_caps
 
 -- a file gets capability sets
 abbrev pub give_caps : Pid → CapState → Oid → Object → Row
-give_caps who caps id o = Commit (with_attr id o (record o.attr { caps = caps }) ∷ []) answer.Nothing (Some (rec.CapSetFile who id caps))
+give_caps who caps id o = Commit (with_attr id o (record o.attr { caps = caps_by caps }) ∷ []) answer.Nothing (Some (rec.CapSetFile who id caps))
 
 -- capability sets of a file are asked for
 abbrev pub asks_caps : Pid → Process → CapState → Oid → Place → Object → Row → Row
 asks_caps who p caps id place o rest =
-    Refuse errno.EINVAL (not (is_file o.kind))
+    Refuse errno.EINVAL (not (is_file o.kind) || not (is_uniform caps))
     (owns p id place o
     (Need (setfcap_of id o place)
     (Need (cap_within who p caps) rest)))
@@ -112,7 +113,7 @@ change_caps who p caps id place o = asks_caps who p caps id place o (give_caps w
 
 -- the sets of a file are set
 abbrev pub set_caps : State → Pid → Process → CapState → Oid → Place → Row
-set_caps s who p caps = written s p (change_caps who p caps)
+set_caps s who p caps = write_object_then s p (change_caps who p caps)
 
 -- `cap_get_file PATH`
 abbrev pub cap_get_file_row : State → Pid → Process → PathValue → Row
@@ -161,7 +162,7 @@ relabel s who p new id place o = asks_label s p new id place o (give_label who n
 
 -- a label is set, where the caller writes the object and owns it
 abbrev pub set_label : State → Pid → Process → Label → Oid → Place → Row
-set_label s who p new = written s p (relabel s who p new)
+set_label s who p new = write_object_then s p (relabel s who p new)
 
 -- `mac_get_file PATH`
 abbrev pub mac_get_file_row : State → Pid → Process → PathValue → Row

@@ -12,7 +12,7 @@ use Rattle.kern_model.specs.declared.world.World.{World}
 use Rattle.kern_model.specs.declared.world.WorldObject.{WorldObject}
 use Rattle.kern_model.specs.declared.world.WorldProc.{WorldProc}
 use Rattle.kern_model.specs.Kinds.{object_with}
-use Rattle.kern_model.specs.State.{State, Process, Change, SetObject, SetEntry, SetProcess, DrawObject, DrawProcess, changed_by, drawn, next_object, next_process, look, root}
+use Rattle.kern_model.specs.State.{State, Process, Change, SetObject, SetEntry, SetProcess, DrawObject, DrawProcess, apply_changes, last_drawn, next_object, next_process, look, root}
 
 -- octal 0022
 abbrev pub boot_umask : ℕ
@@ -34,13 +34,13 @@ entry_for s dir (name ∷ next ∷ names) id = entry_for s (unwrap_or (look s di
 
 -- an object of the world is there, and has its entry
 unfoldable pub boot_object : State → WorldObject → State
-boot_object s o = changed_by s
-    (DrawObject o.label (drawn s.object_numbers o.label + 1) ∷ SetObject (next_object s o.label) (object_of o) ∷ entry_for s root o.path.names (next_object s o.label))
+boot_object s o = apply_changes s
+    (DrawObject o.label (last_drawn s.object_numbers o.label + 1) ∷ SetObject (next_object s o.label) (object_of o) ∷ entry_for s root o.path.names (next_object s o.label))
 
 -- a process of the world is there, in the root directory
 unfoldable pub boot_process : State → WorldProc → State
-boot_process s w = changed_by s
-    (DrawProcess w.label (drawn s.process_numbers w.label + 1) ∷ SetProcess (next_process s w.label) (process_of w) ∷ [])
+boot_process s w = apply_changes s
+    (DrawProcess w.label (last_drawn s.process_numbers w.label + 1) ∷ SetProcess (next_process s w.label) (process_of w) ∷ [])
 
 abbrev pub boot_objects : State → List WorldObject → State
 boot_objects s [] = s
@@ -71,10 +71,10 @@ objects_loaded w = boot_objects (nothing w.bound w.top) w.objects
 abbrev pub boot : World → State
 boot w = boot_processes (objects_loaded w) w.procs
 
-abbrev pub started : State → List WorldProc → List Rec
-started s [] = []
-started s (w ∷ ws) = rec.Boot (next_process s w.label) w.label w.caps ∷ started (boot_process s w) ws
+abbrev pub boot_recs_from : State → List WorldProc → List Rec
+boot_recs_from s [] = []
+boot_recs_from s (w ∷ ws) = rec.Boot (next_process s w.label) w.label w.caps ∷ boot_recs_from (boot_process s w) ws
 
 -- the records of a start: one for each process, in the order of the world's lines
 abbrev pub boot_recs : World → List Rec
-boot_recs w = started (objects_loaded w) w.procs
+boot_recs w = boot_recs_from (objects_loaded w) w.procs

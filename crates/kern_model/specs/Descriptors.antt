@@ -19,8 +19,8 @@ pub record Opened : Type 0 where
   pub description : Description
 
 -- what a descriptor of a process refers to, if that is open
-unfoldable pub opened : State → Process → ℕ → Option Opened
-opened s p fd = option_and_then (λ did. option_map (λ d. record { did = did; description = d }) (table.get s.descriptions did)) (table.get p.fds fd)
+unfoldable pub open_description : State → Process → ℕ → Option Opened
+open_description s p fd = option_and_then (λ did. option_map (λ d. record { did = did; description = d }) (table.get s.descriptions did)) (table.get p.fds fd)
 
 -- how many descriptors a process has
 abbrev pub open_count : Process → ℕ
@@ -73,5 +73,5 @@ abbrev pub let_go : State → (Descriptor → Bool) → Did × Description → L
 let_go s goes e = cond (is_let_go s goes e.0) (DropDescription e.0 ∷ cond (is_drained s goes e.1.object) (truncation s e.1.object ∷ []) []) []
 
 -- what changes where descriptors close
-unfoldable pub closing : State → (Descriptor → Bool) → List Change
-closing s goes = flat_map (let_go s goes) (table.entries s.descriptions)
+unfoldable pub changes_of_close : State → (Descriptor → Bool) → List Change
+changes_of_close s goes = flat_map (let_go s goes) (table.entries s.descriptions)

@@ -1,7 +1,7 @@
 -- The rows of the calls on descriptors.
 use Rattle.std.specs.Prelude.{ℕ, ◌+◌, ◌==◌, ◌&&◌, ◌||◌, not, nat_le, nat_lt, int_lt, Bool, true, false, cond, List, [], ◌∷◌, ◌++◌, length, take, drop, Option, None, Some, ℤ, pos, ◌+ℤ◌, unsigned_abs}
 use Rattle.std.specs.FinMap as map
-use Rattle.cap_bits.specs.State.{no_flags}
+use Rattle.cap_bits.specs.FileCaps.{no_file_caps}
 use Rattle.lab_lattice.specs.Label.{Label}
 use Rattle.kern_model.specs.declared.limits.TheConstants.{MAX_DESCRIPTIONS, MAX_DESCRIPTORS, MAX_FILE_BYTES, MAX_PIPE_BYTES}
 use Rattle.kern_model.specs.declared.calls.Answer.{Answer}
@@ -21,12 +21,12 @@ use Rattle.kern_model.specs.declared.objects.Body.TheVariants as body
 use Rattle.kern_model.specs.declared.objects.Object.{Object}
 use Rattle.kern_model.specs.Keys.{same_pid}
 use Rattle.kern_model.specs.Kinds.{is_stream, object_with, permissions}
-use Rattle.kern_model.specs.State.{State, Process, Description, Change, SetObject, SetProcess, SetDescription, DrawDescription, object_at, drawn}
-use Rattle.kern_model.specs.Descriptors.{Opened, Descriptor, opened, open_count, lowest_free, with_descriptor, any_open, closing}
+use Rattle.kern_model.specs.State.{State, Process, Description, Change, SetObject, SetProcess, SetDescription, DrawDescription, object_at, last_drawn}
+use Rattle.kern_model.specs.Descriptors.{Opened, Descriptor, open_description, open_count, lowest_free, with_descriptor, any_open, changes_of_close}
 use Rattle.kern_model.specs.Rules.{of_object, mac_write, is_plain}
 use Rattle.kern_model.specs.Row.{Row, Soft, Refuse, Fail, Commit, need_if}
 use Rattle.kern_model.specs.Walk.{read_object, write_object}
-use Rattle.kern_model.specs.Create.{attr_of, drawing, drawing_after, to_number}
+use Rattle.kern_model.specs.Create.{attr_of, object_addition, object_addition_after, to_number}
 use Rattle.kern_model.specs.Stat.{tell_stat}
 
 -- ---- what rows of descriptors share
@@ -37,7 +37,7 @@ or_not_open (Some f) k = k f
 
 -- the row goes on with what a descriptor refers to, and fails where it is not open
 abbrev pub on_descriptor : State → Process → ℕ → (Opened → Row) → Row
-on_descriptor s p fd k = or_not_open (opened s p fd) k
+on_descriptor s p fd k = or_not_open (open_description s p fd) k
 
 abbrev pub open_object : State → Opened → Object
 open_object s f = object_at s f.description.object
@@ -48,7 +48,7 @@ has_free_descriptors p n = nat_le (open_count p + n) MAX_DESCRIPTORS
 
 -- whether n more numbers of descriptions are left at the caller's label
 abbrev pub has_descriptions : State → Process → ℕ → Bool
-has_descriptions s p n = nat_le (drawn s.description_numbers p.label + n) MAX_DESCRIPTIONS
+has_descriptions s p n = nat_le (last_drawn s.description_numbers p.label + n) MAX_DESCRIPTIONS
 
 -- n more descriptors of the caller are free
 abbrev pub has_free : Process → ℕ → Row → Row
@@ -68,7 +68,7 @@ with_bytes s id bytes = SetObject id (record (object_at s id) { bytes = bytes })
 
 -- attributes without set-id bits and capabilities
 abbrev pub unprivileged : Attr → Attr
-unprivileged attr = record attr { mode = permissions attr.mode; caps = no_flags }
+unprivileged attr = record attr { mode = permissions attr.mode; caps = no_file_caps }
 
 -- soft fsetid of a file whose content changes: its attributes stay, or are cleared where that is denied
 abbrev pub keeps_attr : Oid → Place → Object → (Attr → Row) → Row
@@ -89,14 +89,14 @@ abbrev pub opened_with : OpenFlags → Oid → Description
 opened_with flags id = record { object = id; reads = flags.r; writes = flags.w; appends = flags.a; offset = 0 }
 
 -- a description of the caller is made, with its lowest free descriptor
-abbrev pub opening : State → Pid → Process → Oid → OpenFlags → List Change
-opening s who p id flags = description_creation_after (drawn s.description_numbers p.label) p.label who p (opened_with flags id)
+abbrev pub description_creation : State → Pid → Process → Oid → OpenFlags → List Change
+description_creation s who p id flags = description_creation_after (last_drawn s.description_numbers p.label) p.label who p (opened_with flags id)
 
 -- ---- close, dup and fstat
 
 -- a descriptor of the caller closes
 abbrev pub closes : State → Pid → Process → ℕ → List Change
-closes s who p fd = SetProcess who (record p { fds = map.remove p.fds fd }) ∷ closing s (λ (d : Descriptor). same_pid d.who who && d.fd == fd)
+closes s who p fd = SetProcess who (record p { fds = map.remove p.fds fd }) ∷ changes_of_close s (λ (d : Descriptor). same_pid d.who who && d.fd == fd)
 
 abbrev pub close_opened : State → Pid → Process → ℕ → Row
 close_opened s who p fd = Commit (closes s who p fd) answer.Nothing None
@@ -144,7 +144,7 @@ abbrev pub pipe_creation_after : ℕ → ℕ → Pid → Process → List Change
 pipe_creation_after a b who p =
     let id : Oid = record { label = p.label; n = a + 1 } in
     let reading : Did = record { label = p.label; n = b + 1 } in
-    drawing_after a p.label (new_pipe p)
+    object_addition_after a p.label (new_pipe p)
     ++ (DrawDescription p.label (b + 2)
     ∷ SetDescription reading (on_pipe id true)
     ∷ SetDescription (second_after b p) (on_pipe id false)
@@ -158,22 +158,22 @@ abbrev pub make_pipe_after : ℕ → ℕ → Pid → Process → Row
 make_pipe_after a b who p = Commit (pipe_creation_after a b who p) (ends_after b p) None
 
 -- an object gets the next number, as a pipe of the caller
-abbrev pub drawing_pipe : State → Process → List Change
-drawing_pipe s p = drawing s p.label (new_pipe p)
+abbrev pub pipe_addition : State → Process → List Change
+pipe_addition s p = object_addition s p.label (new_pipe p)
 
 -- the number after the next one of a description
 abbrev pub second_description : State → Process → Did
-second_description s p = second_after (drawn s.description_numbers p.label) p
+second_description s p = second_after (last_drawn s.description_numbers p.label) p
 
 -- a pipe is made with the next numbers, and descriptions for reading and for writing
 abbrev pub pipe_creation : State → Pid → Process → List Change
-pipe_creation s who p = pipe_creation_after (drawn s.object_numbers p.label) (drawn s.description_numbers p.label) who p
+pipe_creation s who p = pipe_creation_after (last_drawn s.object_numbers p.label) (last_drawn s.description_numbers p.label) who p
 
 abbrev pub both_ends : State → Process → Answer
-both_ends s p = ends_after (drawn s.description_numbers p.label) p
+both_ends s p = ends_after (last_drawn s.description_numbers p.label) p
 
 abbrev pub make_pipe : State → Pid → Process → Row
-make_pipe s who p = make_pipe_after (drawn s.object_numbers p.label) (drawn s.description_numbers p.label) who p
+make_pipe s who p = make_pipe_after (last_drawn s.object_numbers p.label) (last_drawn s.description_numbers p.label) who p
 
 -- `pipe`
 abbrev pub pipe_row : State → Pid → Process → Row
@@ -201,13 +201,13 @@ abbrev pub from_stream : ℕ → Oid → Object → Row
 from_stream n id o = Commit (SetObject id (record o { bytes = drop n o.bytes }) ∷ []) (answer.Bytes (take n o.bytes)) None
 
 -- bytes come out of a pipe or FIFO where `stream` holds, and else of a file
-abbrev pub taking : Bool → ℕ → Opened → Object → Row
-taking stream n f o = cond stream (from_stream n f.description.object o) (from_file f (taken_from o f n))
+abbrev pub take_from : Bool → ℕ → Opened → Object → Row
+take_from stream n f o = cond stream (from_stream n f.description.object o) (from_file f (taken_from o f n))
 
 -- the same, unless it is a pipe or FIFO that is empty and has a description for writing
 abbrev pub comes_out : Bool → State → ℕ → Opened → Object → Row
 comes_out stream s n f o =
-    Refuse errno.EAGAIN (stream && length o.bytes == 0 && any_open s (λ d. d.writes) f.description.object) (taking stream n f o)
+    Refuse errno.EAGAIN (stream && length o.bytes == 0 && any_open s (λ d. d.writes) f.description.object) (take_from stream n f o)
 
 -- the same, where the caller writes the pipe or FIFO, by label
 abbrev pub read_as : Bool → State → Process → ℕ → Opened → Row
@@ -270,14 +270,14 @@ writes_at bytes f o at = rewrites bytes f o at (move_after bytes f at)
 abbrev pub into_file : List ℕ → Opened → Object → Row
 into_file bytes f o = to_place bytes f o (writes_at bytes f o)
 
-abbrev pub putting : State → Opened → List ℕ → Row
-putting s f bytes = into_stream s bytes f (open_object s f)
+abbrev pub put_in_stream : State → Opened → List ℕ → Row
+put_in_stream s f bytes = into_stream s bytes f (open_object s f)
 
-abbrev pub writing : State → Opened → List ℕ → Row
-writing s f bytes = into_file bytes f (open_object s f)
+abbrev pub put_in_file : State → Opened → List ℕ → Row
+put_in_file s f bytes = into_file bytes f (open_object s f)
 
 abbrev pub write_opened : State → List ℕ → Opened → Row
-write_opened s bytes f = cond (is_stream (open_object s f).kind) (putting s f bytes) (writing s f bytes)
+write_opened s bytes f = cond (is_stream (open_object s f).kind) (put_in_stream s f bytes) (put_in_file s f bytes)
 
 -- `write FD BYTES`
 abbrev pub write_row : State → Pid → Process → ℕ → List ℕ → Row

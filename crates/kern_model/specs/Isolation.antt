@@ -50,8 +50,8 @@ abbrev pub crosses : Label → Rec → Bool
 crosses l (rec.Exercise e) = is_mac e.cap && (differ (low l e.label) (low l e.thing_label) || differs_from l (low l e.label) e.new_label)
 crosses l _ = false
 
-abbrev pub crossing : Label → List Rec → Bool
-crossing l recs = list_any (crosses l) recs
+abbrev pub any_crosses : Label → List Rec → Bool
+any_crosses l recs = list_any (crosses l) recs
 
 -- ---- the part of a state
 
@@ -91,18 +91,18 @@ pub record Answered : Type 0 where
   pub head : List ℕ
   pub reply : Reply
 
-abbrev pub answered : CallRecord → Answered
-answered p = record { who = p.who; head = p.head; reply = p.reply }
+abbrev pub answer_of_call : CallRecord → Answered
+answer_of_call p = record { who = p.who; head = p.head; reply = p.reply }
 
 -- what Low tags were answered, in order
 abbrev pub answers : Label → List CallRecord → List Answered
 answers l [] = []
-answers l (p ∷ ps) = cond (low l p.who.label) (answered p ∷ answers l ps) (answers l ps)
+answers l (p ∷ ps) = cond (low l p.who.label) (answer_of_call p ∷ answers l ps) (answers l ps)
 
 -- all that was answered
 abbrev pub all_answers : List CallRecord → List Answered
 all_answers [] = []
-all_answers (p ∷ ps) = answered p ∷ all_answers ps
+all_answers (p ∷ ps) = answer_of_call p ∷ all_answers ps
 
 -- what the part of a world answers to the part of a script, with nothing else there
 abbrev pub alone : Label → World → List ScriptItem → List Answered
@@ -111,7 +111,7 @@ alone l w items = all_answers (run (part l (boot w)) (part_script l items))
 -- the calls before the first one that has a record which crosses l
 abbrev pub up_to : Label → List CallRecord → List CallRecord
 up_to l [] = []
-up_to l (p ∷ ps) = cond (crossing l p.recs) [] (p ∷ up_to l ps)
+up_to l (p ∷ ps) = cond (any_crosses l p.recs) [] (p ∷ up_to l ps)
 
 -- ---- what holds until something crosses
 

@@ -64,5 +64,5 @@ abbrev pub permissions : ℕ → ℕ
 permissions mode = bit_and mode MAX_PERMISSIONS
 
 -- the permission bits of a mode but for those of an umask
-abbrev pub masked : ℕ → ℕ → ℕ
-masked mode umask = bit_and (permissions mode) (bit_not w16 umask)
+abbrev pub masked_permissions : ℕ → ℕ → ℕ
+masked_permissions mode umask = bit_and (permissions mode) (bit_not w16 umask)

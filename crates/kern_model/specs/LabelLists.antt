@@ -25,10 +25,10 @@ abbrev pub IsSet : {X : Type 0} → X → List X → ℕ → X → List X → Ty
 IsSet none old n item new = (m : ℕ) → get_or new m none ≡ cond (m == n) item (get_or old m none)
 
 -- the numbers of a label from a count on, where something stands
-abbrev pub numbered : {X : Type 0} → Label → ℕ → List (Option X) → List (Num × X)
-numbered label n [] = []
-numbered label n (item ∷ items) = with_entry (label, n) item (numbered label (n + 1) items)
+abbrev pub entries_from : {X : Type 0} → Label → ℕ → List (Option X) → List (Num × X)
+entries_from label n [] = []
+entries_from label n (item ∷ items) = with_entry (label, n) item (entries_from label (n + 1) items)
 
 -- what stands at each number
 unfoldable pub items_in : {X : Type 0} → Lists (Option X) → FinMap num_cmp X
-items_in {X = X} lists = map.from_entries (flat_map (λ (list : Label × List (Option X)). numbered list.0 0 list.1) (map.entries lists))
+items_in {X = X} lists = map.from_entries (flat_map (λ (list : Label × List (Option X)). entries_from list.0 0 list.1) (map.entries lists))

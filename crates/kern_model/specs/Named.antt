@@ -11,8 +11,8 @@ use Rattle.kern_model.specs.declared.checks.CheckName.TheVariants as check
 use Rattle.kern_model.specs.Names.{word_of, check_word, errno_word}
 
 -- the first of some values that has a word
-unfoldable pub named : {X : Type 0} → (X → List ℕ) → List X → List ℕ → Option X
-named word_of values word = find (λ x. pointwise ◌==◌ word (word_of x)) values
+unfoldable pub find_named : {X : Type 0} → (X → List ℕ) → List X → List ℕ → Option X
+find_named word_of values word = find (λ x. pointwise ◌==◌ word (word_of x)) values
 
 -- what is found for a word is the value that has this word, and nothing where no value has it
 abbrev pub IsFoundBy : {X : Type 0} → (X → List ℕ) → List ℕ → Option X → Type 0
@@ -27,7 +27,7 @@ all_calls =
 
 -- the call with a word
 abbrev pub call_named : List ℕ → Option CallName
-call_named = named word_of all_calls
+call_named = find_named word_of all_calls
 
 -- ---- checks
 
@@ -37,7 +37,7 @@ all_checks =
 
 -- the check with a word
 abbrev pub check_named : List ℕ → Option CheckName
-check_named = named check_word all_checks
+check_named = find_named check_word all_checks
 
 -- ---- error numbers
 
@@ -47,4 +47,4 @@ all_errnos =
 
 -- the error number with a word
 abbrev pub errno_named : List ℕ → Option Errno
-errno_named = named errno_word all_errnos
+errno_named = find_named errno_word all_errnos

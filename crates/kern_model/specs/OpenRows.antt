@@ -12,14 +12,14 @@ use Rattle.kern_model.specs.declared.numbers.Pid.{Pid}
 use Rattle.kern_model.specs.declared.objects.Attr.{Attr}
 use Rattle.kern_model.specs.declared.objects.Body.TheVariants as body
 use Rattle.kern_model.specs.declared.objects.Object.{Object}
-use Rattle.kern_model.specs.Kinds.{is_dir, is_file, is_fifo, object_with, masked}
+use Rattle.kern_model.specs.Kinds.{is_dir, is_file, is_fifo, object_with, masked_permissions}
 use Rattle.kern_model.specs.State.{State, Process, Change, object_at}
 use Rattle.kern_model.specs.Descriptors.{lowest_free}
 use Rattle.kern_model.specs.Rules.{mac_read_of, mac_write_of, dac_read_of, dac_write_of}
 use Rattle.kern_model.specs.Row.{Row, Refuse, Commit, need_if}
 use Rattle.kern_model.specs.Walk.{Found, Start, Entry, walk, last_place, dir_place}
 use Rattle.kern_model.specs.Create.{make_in, attr_of, creation, to_number}
-use Rattle.kern_model.specs.FileRows.{may_describe, opening, keeps_attr, content_change}
+use Rattle.kern_model.specs.FileRows.{may_describe, description_creation, keeps_attr, content_change}
 
 -- ---- whether an object that is there may be opened
 
@@ -54,16 +54,16 @@ to_present p flags id place o rest = Refuse errno.EEXIST (flags.c && flags.x) (a
 
 -- what was done before, and then the description
 abbrev pub opens : State → Pid → Process → Oid → OpenFlags → List Change → Row
-opens s who p id flags before = Commit (before ++ opening s who p id flags) (answer.Number (lowest_free p.fds)) None
+opens s who p id flags before = Commit (before ++ description_creation s who p id flags) (answer.Number (lowest_free p.fds)) None
 
 -- the change of an object that is emptied with these attributes, if it is
-abbrev pub emptying : Oid → Object → Option Attr → List Change
-emptying id o None = []
-emptying id o (Some attr) = content_change id o [] attr ∷ []
+abbrev pub truncation_if : Oid → Object → Option Attr → List Change
+truncation_if id o None = []
+truncation_if id o (Some attr) = content_change id o [] attr ∷ []
 
 -- an object that is there is opened
 abbrev pub opens_present : State → Pid → Process → OpenFlags → Oid → Object → Option Attr → Row
-opens_present s who p flags id o emptied = opens s who p id flags (emptying id o emptied)
+opens_present s who p flags id o emptied = opens s who p id flags (truncation_if id o emptied)
 
 -- an object whose label allows it is opened, if the caller may
 abbrev pub open_labelled : State → Pid → Process → OpenFlags → Oid → Place → Object → Row
@@ -83,7 +83,7 @@ to_absent s p flags dir place rest = Refuse errno.ENOENT (not flags.c) (make_in 
 
 -- an empty file that the caller makes
 abbrev pub new_file : Process → ℕ → Object
-new_file p mode = object_with p.label (attr_of p (masked mode p.umask)) (body.File [])
+new_file p mode = object_with p.label (attr_of p (masked_permissions mode p.umask)) (body.File [])
 
 -- a file is made under a number, and opened
 abbrev pub opens_made : State → Pid → Process → OpenFlags → ℕ → Oid → Name → Oid → Row

@@ -3,6 +3,7 @@ use Rattle.std.specs.Prelude.{ℕ, ◌+◌, ◌&&◌, ◌||◌, ◌==◌, not, n
 use Rattle.std.specs.List.{flat_map}
 use Rattle.std.specs.FinMap as map
 use Rattle.cap_bits.specs.CapSet.{CapSet}
+use Rattle.cap_bits.specs.FileCaps.{shown}
 use Rattle.cap_bits.specs.declared.state.CapState.{CapState}
 use Rattle.fs_path.specs.Path.{PathValue}
 use Rattle.lab_lattice.specs.Label.{Label}
@@ -23,13 +24,13 @@ use Rattle.kern_model.specs.declared.objects.Attr.{Attr}
 use Rattle.kern_model.specs.declared.objects.Object.{Object}
 use Rattle.kern_model.specs.declared.records.Rec.{Rec}
 use Rattle.kern_model.specs.declared.records.Rec.TheVariants as rec
-use Rattle.kern_model.specs.Descriptors.{Descriptor, closing}
+use Rattle.kern_model.specs.Descriptors.{Descriptor, changes_of_close}
 use Rattle.kern_model.specs.Exec.{exec_caps, exec_ids}
 use Rattle.kern_model.specs.Keys.{same_pid, is_pid}
 use Rattle.kern_model.specs.Maps.{any_entry}
 use Rattle.kern_model.specs.Rules.{same_label, mac_write_process, mac_subject, dac_execute, exec_kind, kill_rule, cap_grow, setuid_rule, setgid_rule, setuid_all, setgid_all}
 use Rattle.kern_model.specs.Row.{Row, Need, Soft, Refuse, Fail, Commit, need_if}
-use Rattle.kern_model.specs.State.{State, Process, Change, SetProcess, DropProcess, DrawProcess, drawn}
+use Rattle.kern_model.specs.State.{State, Process, Change, SetProcess, DropProcess, DrawProcess, last_drawn}
 use Rattle.kern_model.specs.Walk.{on_path, read_object}
 
 -- ---- steps of several calls
@@ -56,7 +57,7 @@ give_child who p last =
 
 -- `fork`
 abbrev pub fork_row : State → Pid → Process → Row
-fork_row s who p = Refuse errno.EAGAIN (nat_le MAX_PROCS (drawn s.process_numbers p.label)) (give_child who p (drawn s.process_numbers p.label))
+fork_row s who p = Refuse errno.EAGAIN (nat_le MAX_PROCS (last_drawn s.process_numbers p.label)) (give_child who p (last_drawn s.process_numbers p.label))
 
 -- whether a process has a living child
 abbrev pub has_child : State → Pid → Bool
@@ -89,7 +90,7 @@ changes_after_end who p how e = cond (not (same_pid e.0 who) && (is_pid who e.1.
 
 -- a process ends: it goes, its descriptors close, its children lose their parent, and its parent learns how it ended
 unfoldable pub ending_of : State → Pid → Process → Ending → List Change
-ending_of s who p how = DropProcess who ∷ (closing s (λ (d : Descriptor). same_pid d.who who) ++ flat_map (changes_after_end who p how) (map.entries s.procs))
+ending_of s who p how = DropProcess who ∷ (changes_of_close s (λ (d : Descriptor). same_pid d.who who) ++ flat_map (changes_after_end who p how) (map.entries s.procs))
 
 -- a process ends, and the call records how
 abbrev pub kill_with : State → Pid → Process → Ending → Row
@@ -108,15 +109,15 @@ abbrev pub asks_signal : Process → Pid → Process → Row → Row
 asks_signal p target t rest = writes_present p target t (Need (kill_rule p target t) rest)
 
 -- what a signal does
-abbrev pub signalled : State → Pid → Process → Signal → Row
-signalled s target t signal.Zero = reports answer.Nothing
-signalled s target t signal.Term = kill_with s target t ending.Term
-signalled s target t signal.Kill = kill_with s target t ending.Kill
+abbrev pub signal_row : State → Pid → Process → Signal → Row
+signal_row s target t signal.Zero = reports answer.Nothing
+signal_row s target t signal.Term = kill_with s target t ending.Term
+signal_row s target t signal.Kill = kill_with s target t ending.Kill
 
 -- a signal goes to a living process, if the caller may send it one
 abbrev pub send : State → Process → Pid → Signal → Option Process → Row
 send s p target sig None = Fail errno.ESRCH
-send s p target sig (Some t) = asks_signal p target t (signalled s target t sig)
+send s p target sig (Some t) = asks_signal p target t (signal_row s target t sig)
 
 -- `kill PID 0|TERM|KILL`
 abbrev pub kill_row : State → Pid → Process → Pid → Signal → Row
@@ -127,8 +128,8 @@ kill_row s who p target sig = Need (mac_write_process p target target.label) (se
 -- the caller takes on the credentials that a program gives
 abbrev pub run : CapSet → Pid → Process → Oid → Attr → Row
 run bound who p id attr =
-    let caps : CapState = exec_caps p.caps attr.caps bound in
-    becomes who (record p { ids = exec_ids p.ids attr; caps = caps }) (Some (rec.Exec who id attr.caps caps))
+    let caps : CapState = exec_caps p.caps (shown attr.caps) bound in
+    becomes who (record p { ids = exec_ids p.ids attr; caps = caps }) (Some (rec.Exec who id (shown attr.caps) caps))
 
 -- a program is asked for: it is a regular file, and its mode lets the caller execute it
 abbrev pub asks_program : Process → Oid → Place → Object → Row → Row

@@ -2,9 +2,10 @@
 use Rattle.std.specs.Prelude.{ℕ, ◌+◌, ◌==◌, ◌&&◌, ◌||◌, not, Bool, false, Option, Some, None, cond, unwrap_or}
 use Rattle.std.specs.List.{list_any}
 use Rattle.std.specs.Int.{bit_at}
-use Rattle.cap_bits.specs.CapSet.{no_caps, is_within, same_sets, union_of}
+use Rattle.cap_bits.specs.CapSet.{is_empty, is_within, union_of}
 use Rattle.cap_bits.specs.declared.cap.Cap.{Cap}
 use Rattle.cap_bits.specs.declared.cap.Cap.TheVariants as cap
+use Rattle.cap_bits.specs.declared.file_caps.FileCaps.{FileCaps}
 use Rattle.cap_bits.specs.declared.state.CapState.{CapState}
 use Rattle.lab_lattice.specs.Label.{Label, dominates}
 use Rattle.kern_model.specs.declared.calls.Errno.{Errno}
@@ -239,9 +240,9 @@ fsetid_of holds id o place = of_object check.Fsetid holds None id o place
 abbrev pub fsetid : State → Bool → Oid → Place → Check
 fsetid s holds id place = fsetid_of holds id (object_at s id) place
 
--- whether a capability state has no capability in any set
-abbrev pub has_no_caps : CapState → Bool
-has_no_caps caps = same_sets caps.e no_caps && same_sets caps.i no_caps && same_sets caps.p no_caps
+-- whether a file has no capability in either set
+abbrev pub has_no_caps : FileCaps → Bool
+has_no_caps caps = is_empty caps.p && is_empty caps.i
 
 -- of a file whose content changes: it has no set-id bit and no capabilities
 abbrev pub is_plain : Attr → Bool

@@ -15,13 +15,13 @@ pub record CallRecord : Type 0 where
   pub recs : List Rec
 
 -- an item as it is played on a state
-abbrev pub played : State → ScriptItem → CallRecord
-played s i = record { who = i.who; head = i.head; reply = (step s i.who i.call).reply; recs = (step s i.who i.call).recs }
+abbrev pub item_record : State → ScriptItem → CallRecord
+item_record s i = record { who = i.who; head = i.head; reply = (step s i.who i.call).reply; recs = (step s i.who i.call).recs }
 
 -- what is played of a script from a state on
 abbrev pub run : State → List ScriptItem → List CallRecord
 run s [] = []
-run s (i ∷ is) = played s i ∷ run (step s i.who i.call).state is
+run s (i ∷ is) = item_record s i ∷ run (step s i.who i.call).state is
 
 -- the last state
 abbrev pub state_after_run : State → List ScriptItem → State

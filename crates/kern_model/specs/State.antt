@@ -5,6 +5,7 @@ use Rattle.std.specs.FinMap as map
 use Rattle.std.specs.FinMap.{FinMap}
 use Rattle.cap_bits.specs.CapSet.{CapSet}
 use Rattle.cap_bits.specs.declared.state.CapState.{CapState}
+use Rattle.cap_bits.specs.FileCaps.{no_file_caps}
 use Rattle.cap_bits.specs.State.{no_flags}
 use Rattle.fs_path.specs.Name.{Name}
 use Rattle.lab_lattice.specs.Label.{Label, label_cmp, bottom}
@@ -72,26 +73,26 @@ pub data Change : Type 0 where
   DrawProcess : (label : Label) (n : ℕ) → Change
   DrawDescription : (label : Label) (n : ℕ) → Change
 
-abbrev pub changed : State → Change → State
-changed s (SetObject id o) = record s { objects = map.insert s.objects id o }
-changed s (SetEntry spot id) = record s { entries = map.insert s.entries spot id }
-changed s (DropEntry spot) = record s { entries = map.remove s.entries spot }
-changed s (SetProcess who p) = record s { procs = map.insert s.procs who p }
-changed s (DropProcess who) = record s { procs = map.remove s.procs who }
-changed s (SetDescription did d) = record s { descriptions = map.insert s.descriptions did d }
-changed s (DropDescription did) = record s { descriptions = map.remove s.descriptions did }
-changed s (DrawObject l n) = record s { object_numbers = map.insert s.object_numbers l n }
-changed s (DrawProcess l n) = record s { process_numbers = map.insert s.process_numbers l n }
-changed s (DrawDescription l n) = record s { description_numbers = map.insert s.description_numbers l n }
+abbrev pub apply_change : State → Change → State
+apply_change s (SetObject id o) = record s { objects = map.insert s.objects id o }
+apply_change s (SetEntry spot id) = record s { entries = map.insert s.entries spot id }
+apply_change s (DropEntry spot) = record s { entries = map.remove s.entries spot }
+apply_change s (SetProcess who p) = record s { procs = map.insert s.procs who p }
+apply_change s (DropProcess who) = record s { procs = map.remove s.procs who }
+apply_change s (SetDescription did d) = record s { descriptions = map.insert s.descriptions did d }
+apply_change s (DropDescription did) = record s { descriptions = map.remove s.descriptions did }
+apply_change s (DrawObject l n) = record s { object_numbers = map.insert s.object_numbers l n }
+apply_change s (DrawProcess l n) = record s { process_numbers = map.insert s.process_numbers l n }
+apply_change s (DrawDescription l n) = record s { description_numbers = map.insert s.description_numbers l n }
 
 -- the changes, one after another
-abbrev pub changed_by : State → List Change → State
-changed_by s [] = s
-changed_by s (c ∷ cs) = changed_by (changed s c) cs
+abbrev pub apply_changes : State → List Change → State
+apply_changes s [] = s
+apply_changes s (c ∷ cs) = apply_changes (apply_change s c) cs
 
 -- what is read in place of an object that is absent: an empty file of the highest label that nobody may use
 abbrev pub stub_object : Label → Object
-stub_object top = record { kind = File; label = top; attr = record { owner = 0; group = 0; mode = 0; caps = no_flags }; bytes = [] }
+stub_object top = record { kind = File; label = top; attr = record { owner = 0; group = 0; mode = 0; caps = no_file_caps }; bytes = [] }
 
 -- the number of what a label does not see: 0, which is never drawn
 abbrev pub stub : Label → Oid
@@ -120,20 +121,20 @@ abbrev pub process_at : State → Pid → Process
 process_at s who = get_or s.procs who (stub_process s.top)
 
 -- the last number drawn of a label
-abbrev pub drawn : FinMap label_cmp ℕ → Label → ℕ
-drawn numbers l = get_or numbers l 0
+abbrev pub last_drawn : FinMap label_cmp ℕ → Label → ℕ
+last_drawn numbers l = get_or numbers l 0
 
 -- the next number of an object at a label
 abbrev pub next_object : State → Label → Oid
-next_object s l = record { label = l; n = drawn s.object_numbers l + 1 }
+next_object s l = record { label = l; n = last_drawn s.object_numbers l + 1 }
 
 -- the next number of a process at a label
 abbrev pub next_process : State → Label → Pid
-next_process s l = record { label = l; n = drawn s.process_numbers l + 1 }
+next_process s l = record { label = l; n = last_drawn s.process_numbers l + 1 }
 
 -- the next number of a description at a label
 abbrev pub next_description : State → Label → Did
-next_description s l = record { label = l; n = drawn s.description_numbers l + 1 }
+next_description s l = record { label = l; n = last_drawn s.description_numbers l + 1 }
 
 -- where an entry of a directory leads
 abbrev pub look : State → Oid → Name → Option Oid

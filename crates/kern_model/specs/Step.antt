@@ -11,7 +11,7 @@ use Rattle.kern_model.specs.declared.calls.Reply.TheVariants as reply
 use Rattle.kern_model.specs.declared.records.Outcome as declared
 use Rattle.kern_model.specs.declared.records.Rec.{Rec}
 use Rattle.kern_model.specs.declared.records.Rec.TheVariants as rec
-use Rattle.kern_model.specs.State.{State, Process, Change, changed_by}
+use Rattle.kern_model.specs.State.{State, Process, Change, apply_changes}
 use Rattle.kern_model.specs.Names.{name_of}
 use Rattle.kern_model.specs.Rules.{denial_of}
 use Rattle.kern_model.specs.Row.{Subject, CheckOutcome, End, Stopped, Refused, Done, judge}
@@ -37,7 +37,7 @@ changes_of (Refused e) = []
 changes_of (Done changes answer own) = changes
 
 abbrev pub state_after : State → End → State
-state_after s e = changed_by s (changes_of e)
+state_after s e = apply_changes s (changes_of e)
 
 -- what a call leaves after its exercises: a deny record where a check stopped it and the caller's switch is on, or its own record where it is done
 abbrev pub own_of : Pid → Process → CallName → End → List Rec
@@ -45,13 +45,13 @@ own_of who p name (Stopped check place) = cond p.audited (rec.Deny who name (den
 own_of who p name (Refused e) = []
 own_of who p name (Done changes answer own) = option_to_list own
 
-abbrev pub settled : State → Pid → Process → CallName → CheckOutcome → StepResult
-settled s who p name j = record { state = state_after s j.end; reply = reply_of j.end; recs = j.used ++ own_of who p name j.end }
+abbrev pub step_result : State → Pid → Process → CallName → CheckOutcome → StepResult
+step_result s who p name j = record { state = state_after s j.end; reply = reply_of j.end; recs = j.used ++ own_of who p name j.end }
 
 -- where no living process has the number, nothing is asked and nothing changes
 abbrev pub step_by : State → Pid → Call → Option Process → StepResult
 step_by s who call None = record { state = s; reply = reply.Refused errno.ESRCH; recs = [] }
-step_by s who call (Some p) = settled s who p (name_of call) (judge (subject who p) [] (row s who p call))
+step_by s who call (Some p) = step_result s who p (name_of call) (judge (subject who p) [] (row s who p call))
 
 unfoldable pub step : State → Pid → Call → StepResult
 step s who call = step_by s who call (map.get s.procs who)

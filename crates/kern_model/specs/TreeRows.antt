@@ -17,7 +17,7 @@ use Rattle.kern_model.specs.declared.objects.Object.{Object}
 use Rattle.kern_model.specs.declared.objects.Object.{Object}
 use Rattle.kern_model.specs.Entries.{has_entries, is_empty, is_removed, is_under, link_count, names_in}
 use Rattle.kern_model.specs.Keys.{Spot, same_oid}
-use Rattle.kern_model.specs.Kinds.{is_dir, object_with, masked}
+use Rattle.kern_model.specs.Kinds.{is_dir, object_with, masked_permissions}
 use Rattle.kern_model.specs.Create.{enter_in, write_directory, attr_of, creation, to_number}
 use Rattle.kern_model.specs.Rules.{mac_write, dac_read, dac_write, created_order, held_order, link_dir, unlink_dir}
 use Rattle.kern_model.specs.Row.{Row, Need, Refuse, Commit}
@@ -51,7 +51,7 @@ make_at s label object spot = to_number s label (λ _. put_object s label object
 
 -- an object of the caller is made, and the spot leads to it
 abbrev pub make_object : State → Process → ℕ → Body → Spot → Row
-make_object s p mode body spot = make_at s p.label (object_with p.label (attr_of p (masked mode p.umask)) body) spot
+make_object s p mode body spot = make_at s p.label (object_with p.label (attr_of p (masked_permissions mode p.umask)) body) spot
 
 -- the spot of what the caller makes
 abbrev pub make_spot : State → Process → PathValue → (Spot → Row) → Row

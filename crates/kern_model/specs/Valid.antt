@@ -6,7 +6,7 @@ use Rattle.std.specs.List.{AllByRecursion}
 use Rattle.std.specs.FinMap as map
 use Rattle.std.specs.FinMap.{FinMap}
 use Rattle.cap_bits.specs.CapSet.{is_within}
-use Rattle.cap_bits.specs.State.{no_flags}
+use Rattle.cap_bits.specs.FileCaps.{no_file_caps}
 use Rattle.fs_path.specs.Name.{Name, is_name}
 use Rattle.lab_lattice.specs.Label.{Label, label_cmp, bottom, dominates}
 use Rattle.kern_model.specs.declared.limits.TheConstants.{MAX_DESCRIPTIONS, MAX_DESCRIPTORS, MAX_FILE_BYTES, MAX_GROUPS, MAX_LINKS, MAX_OBJECTS, MAX_PIPE_BYTES, MAX_PROCS}
@@ -20,7 +20,7 @@ use Rattle.kern_model.specs.Entries.{is_empty, is_removed, link_count}
 use Rattle.kern_model.specs.Keys.{oid_cmp, Spot}
 use Rattle.kern_model.specs.Kinds.{is_dir, is_file, is_stream, is_mode, is_permission}
 use Rattle.kern_model.specs.Descriptors.{any_open}
-use Rattle.kern_model.specs.State.{State, Process, Description, drawn, look, root}
+use Rattle.kern_model.specs.State.{State, Process, Description, last_drawn, look, root}
 
 -- something has the key
 pub record IsThere {K X : Type 0} {R : K → K → Ordering} (table : FinMap R X) (k : K) : Type 0 where
@@ -39,8 +39,8 @@ IsDrawn n last = (1 ≤ n) × (n ≤ last)
 
 -- numbers are drawn at labels that top dominates alone, and no more at a label than there may be
 pub record AreFew (top : Label) (numbers : FinMap label_cmp ℕ) (most : ℕ) : Type 0 where
-  pub below : (l : Label) → 1 ≤ drawn numbers l → dominates top l ≡ true
-  pub few : (l : Label) → drawn numbers l ≤ most
+  pub below : (l : Label) → 1 ≤ last_drawn numbers l → dominates top l ≡ true
+  pub few : (l : Label) → last_drawn numbers l ≤ most
 
 -- where names lead from a directory
 abbrev pub leads : State → Oid → List Name → Option Oid
@@ -57,10 +57,10 @@ pub record IsReached (s : State) (id : Oid) : Type 0 where
 -- an object of the state
 pub record IsValidObject (s : State) (id : Oid) (o : Object) : Type 0 where
   pub below : dominates s.top o.label ≡ true
-  pub drawn_already : IsDrawn id.n (drawn s.object_numbers id.label)
+  pub drawn_already : IsDrawn id.n (last_drawn s.object_numbers id.label)
   pub mode : is_mode o.attr.mode ≡ true
   -- only a file has capabilities
-  pub only_files : is_file o.kind ≡ false → o.attr.caps ≡ no_flags
+  pub only_files : is_file o.kind ≡ false → o.attr.caps ≡ no_file_caps
   -- a directory has entries and no bytes
   pub dir_bytes : o.kind ≡ kind.Dir → o.bytes ≡ []
   pub file_bytes : o.kind ≡ kind.File → length o.bytes ≤ MAX_FILE_BYTES
@@ -95,12 +95,12 @@ pub record IsValidEntry (s : State) (spot : Spot) (id : Oid) : Type 0 where
 -- an ended child has a number that was drawn
 pub record IsValidEnd (s : State) (e : Pid × Ending) : Type 0 where
   pub below : dominates s.top e.0.label ≡ true
-  pub drawn_already : IsDrawn e.0.n (drawn s.process_numbers e.0.label)
+  pub drawn_already : IsDrawn e.0.n (last_drawn s.process_numbers e.0.label)
 
 -- a living process of the state
 pub record IsValidProcess (s : State) (who : Pid) (p : Process) : Type 0 where
   pub below : dominates s.top p.label ≡ true
-  pub drawn_already : IsDrawn who.n (drawn s.process_numbers who.label)
+  pub drawn_already : IsDrawn who.n (last_drawn s.process_numbers who.label)
   -- what is effective is permitted
   pub within : is_within p.caps.e p.caps.p ≡ true
   pub umask : is_permission p.umask ≡ true
@@ -122,7 +122,7 @@ pub record IsHeld (s : State) (did : Did) : Type 0 where
 
 -- an open description of the state: it is held by a descriptor, and is of a file, a FIFO or a pipe
 pub record IsValidDescription (s : State) (did : Did) (d : Description) : Type 0 where
-  pub drawn_already : IsDrawn did.n (drawn s.description_numbers did.label)
+  pub drawn_already : IsDrawn did.n (last_drawn s.description_numbers did.label)
   pub object : Object
   pub object_is : map.get s.objects d.object ≡ Some object
   pub no_dir : object.kind ≡ kind.Dir → ⊥

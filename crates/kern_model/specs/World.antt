@@ -3,7 +3,7 @@ use Rattle.std.specs.Prelude.{◌≡◌, ℕ, ◌≤◌, ◌==◌, Bool, true, f
 use Rattle.std.specs.List.{AllByRecursion, find}
 use Rattle.std.specs.Cmp.Lexicographic.{pointwise}
 use Rattle.cap_bits.specs.CapSet.{is_within}
-use Rattle.cap_bits.specs.State.{no_flags}
+use Rattle.cap_bits.specs.FileCaps.{no_file_caps}
 use Rattle.fs_path.specs.Name.{Name}
 use Rattle.fs_path.specs.Path.{HasForm}
 use Rattle.lab_lattice.specs.Label.{Label, bottom, dominates}
@@ -64,7 +64,7 @@ pub record IsWorldObject (top : Label) (o : WorldObject) : Type 0 where
   pub below : dominates top o.label ≡ true
   pub few : length (bytes_of o.body) ≤ MAX_FILE_BYTES
   pub no_pipe : o.body ≡ body.Pipe → ⊥
-  pub only_file : is_file (kind_of o.body) ≡ false → o.attr.caps ≡ no_flags
+  pub only_file : is_file (kind_of o.body) ≡ false → o.attr.caps ≡ no_file_caps
 
 -- real, effective and saved user are one, and so are the groups
 pub record AreOne (ids : Ids) : Type 0 where

@@ -1,7 +1,7 @@
 // The last number drawn of each label.
 ghost use Rattle.std.specs.Prelude.{◌≡◌, ◌+◌, ◌<◌, ◌≤◌, MatchOption, OnErr, OnOk};
 ghost use Rattle.std.specs.FinMap as map;
-ghost use Rattle.kern_model.specs.State.{drawn};
+ghost use Rattle.kern_model.specs.State.{last_drawn};
 
 use crate::{LabelMap, NoMemory};
 use lab_lattice::Label;
@@ -52,14 +52,14 @@ impl Numbers {
     /// The last number drawn of a label, and 0 before the first.
     #[tactic(auto, unfolding(crate::specs::Maps::get_or))]
     pub fn last(&self, label: &Label) -> u16
-        ensures { result ≡ drawn self.now label.now }
+        ensures { result ≡ last_drawn self.now label.now }
     {
         self.get(label).unwrap_or(0)
     }
 
     /// The next number of a label, or `None` where `most` are drawn.
     pub fn next(&self, label: &Label, most: u16) -> Option<u16>
-        ensures { MatchOption result (most ≤ drawn self.now label.now) (λ n. (n ≡ drawn self.now label.now + 1) × (drawn self.now label.now < most)) }
+        ensures { MatchOption result (most ≤ last_drawn self.now label.now) (λ n. (n ≡ last_drawn self.now label.now + 1) × (last_drawn self.now label.now < most)) }
     {
         let last = self.last(label);
         if last >= most {

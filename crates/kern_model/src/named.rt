@@ -2,7 +2,7 @@
 ghost use Rattle.std.specs.Prelude.{◌≡◌, ◌==◌};
 ghost use Rattle.std.specs.Cmp.Lexicographic.{pointwise};
 ghost use Rattle.kern_model.specs.Names.{word_of, check_word, errno_word};
-ghost use Rattle.kern_model.specs.Named.{call_named, check_named, errno_named, named, IsFoundBy};
+ghost use Rattle.kern_model.specs.Named.{call_named, check_named, errno_named, find_named, IsFoundBy};
 
 use crate::{CallName, CheckName, Errno};
 
@@ -107,9 +107,9 @@ const ERRNOS: [Errno; 20] = [
 ];
 
 // The calls whose words begin as this one does, and all calls where none does.
-#[tactic(auto, unfolding(crate::specs::Named::named))]
+#[tactic(auto, unfolding(crate::specs::Named::find_named))]
 fn candidates(word: &[u8]) -> &'static [CallName]
-    ensures { named word_of result.now word.now ≡ call_named word.now }
+    ensures { find_named word_of result.now word.now ≡ call_named word.now }
 {
     match word {
         [b'a', ..] => &CALLS[..2],
@@ -132,10 +132,13 @@ fn candidates(word: &[u8]) -> &'static [CallName]
     }
 }
 
-// Whether two words are one. Words are short, so that this takes fewer steps than `==` of slices does.
+// Whether two words are equal. For words of one length this takes fewer steps than `==` of slices does.
 fn are_equal(word: &[u8], other: &[u8]) -> bool
     ensures { result ≡ pointwise ◌==◌ word.now other.now }
 {
+    if word.len() != other.len() {
+        return false;
+    }
     let (mut left, mut right) = (word, other);
     while let ([first, more @ ..], [second, rest @ ..]) = (left, right) {
         if first != second {
@@ -144,13 +147,13 @@ fn are_equal(word: &[u8], other: &[u8]) -> bool
         left = more;
         right = rest;
     }
-    left.is_empty() && right.is_empty()
+    true
 }
 
 // The first of some calls with a word.
-#[tactic(auto, unfolding(crate::specs::Named::named))]
+#[tactic(auto, unfolding(crate::specs::Named::find_named))]
 fn first_named(calls: &[CallName], word: &[u8]) -> Option<CallName>
-    ensures { result ≡ named word_of calls.now word.now }
+    ensures { result ≡ find_named word_of calls.now word.now }
 {
     calls
         .iter()
@@ -170,7 +173,7 @@ impl CallName {
 
 impl CheckName {
     /// The check with this word.
-    #[tactic(auto, unfolding(crate::specs::Named::named))]
+    #[tactic(auto, unfolding(crate::specs::Named::find_named))]
     pub fn from_word(word: &[u8]) -> Option<CheckName>
         ensures found { result ≡ check_named word.now }
         ensures exact { IsFoundBy check_word word.now result }
@@ -181,7 +184,7 @@ impl CheckName {
 
 impl Errno {
     /// The error number with this word.
-    #[tactic(auto, unfolding(crate::specs::Named::named))]
+    #[tactic(auto, unfolding(crate::specs::Named::find_named))]
     pub fn from_word(word: &[u8]) -> Option<Errno>
         ensures found { result ≡ errno_named word.now }
         ensures exact { IsFoundBy errno_word word.now result }

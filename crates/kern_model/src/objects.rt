@@ -1,6 +1,6 @@
 // Objects, and what is reported of them.
 use crate::{Gid, Mode, Oid, Uid};
-use cap_bits::CapState;
+use cap_bits::FileCaps;
 use fs_path::ByteList;
 use lab_lattice::Label;
 
@@ -12,14 +12,14 @@ pub enum Kind {
     Pipe,
 }
 
-/// Who owns an object, its permission bits and its capability sets.
+/// Who owns an object, its permission bits and its capabilities.
 #[derive(Clone, Copy, Debug, PartialEq, Eq)]
 pub struct Attr {
     pub owner: Uid,
     pub group: Gid,
     pub mode: Mode,
-    /// The capability sets of a file; none for anything else.
-    pub caps: CapState,
+    /// The capabilities of a file; none for anything else.
+    pub caps: FileCaps,
 }
 
 /// What a new object is, and what it holds.

@@ -3,7 +3,7 @@ ghost use Rattle.std.specs.Prelude.{◌≡◌, ◌≤◌, true, false, [], nat_l
 ghost use Rattle.std.specs.Option.{option_copied};
 ghost use Rattle.std.specs.Bool.{Decides};
 ghost use Rattle.std.specs.List.{All, list_all};
-ghost use Rattle.cap_bits.specs.State.{no_flags};
+ghost use Rattle.cap_bits.specs.FileCaps.{no_file_caps};
 ghost use Rattle.lab_lattice.specs.Label.{bottom, dominates};
 ghost use Rattle.kern_model.specs.declared.objects.Body.TheVariants as body;
 ghost use Rattle.kern_model.specs.declared.world.WorldObject.{WorldObject};
@@ -13,7 +13,7 @@ ghost use Rattle.kern_model.specs.World.{objects_at, procs_at, same_names, paren
 
 use crate::limits::{MAX_FILE_BYTES, MAX_GROUPS, MAX_OBJECTS, MAX_PROCS};
 use crate::{Body, Ids, Name, World, WorldObject, WorldProc};
-use cap_bits::CapState;
+use cap_bits::{CapSet, FileCaps};
 use fs_path::is_mode;
 use lab_lattice::{Label, Lattice, bottom};
 
@@ -78,20 +78,20 @@ fn are_placed(objects: &[WorldObject]) -> bool
     true
 }
 
-// Whether there is no capability in any set.
-fn has_no_flags(caps: &CapState) -> bool
-    ensures { Decides result (caps.now ≡ no_flags) }
+// Whether a file with these capabilities has none.
+fn has_no_caps(caps: &FileCaps) -> bool
+    ensures { Decides result (caps.now ≡ no_file_caps) }
 {
-    *caps == CapState::none()
+    caps.p == CapSet::none() && caps.i == CapSet::none()
 }
 
 // Whether an object may hold what it does: only a file has bytes and capabilities.
-fn may_be_held(held: &Body, caps: &CapState) -> bool
-    ensures { Decides result ((length (bytes_of held.now) ≤ MAX_FILE_BYTES) × (held.now ≡ body.Pipe → ⊥) × (is_file (kind_of held.now) ≡ false → caps.now ≡ no_flags)) }
+fn may_be_held(held: &Body, caps: &FileCaps) -> bool
+    ensures { Decides result ((length (bytes_of held.now) ≤ MAX_FILE_BYTES) × (held.now ≡ body.Pipe → ⊥) × (is_file (kind_of held.now) ≡ false → caps.now ≡ no_file_caps)) }
 {
     match held {
         Body::File(bytes) => bytes.items().len() <= MAX_FILE_BYTES,
-        Body::Dir | Body::Fifo => has_no_flags(caps),
+        Body::Dir | Body::Fifo => has_no_caps(caps),
         Body::Pipe => false,
     }
 }

@@ -1,5 +1,5 @@
 // What no clause says: that the calls succeed with ample memory.
-use cap_bits::{Cap, CapSet, CapState};
+use cap_bits::{Cap, CapSet, CapState, FileCaps};
 use kern_model::{GroupList, Ids, NoMemory};
 use proc_creds::{Creds, NotAllowed, copy_ids};
 use std::alloc::Global;
@@ -43,6 +43,27 @@ fn grow(alloc: Global) -> bool {
 #[test]
 fn sets_grow_by_nothing(rt: HostRuntime) {
     assert!(rt; grow(rt.alloc()));
+}
+
+// Whether exec of a file that permits a capability within the bound gives it, effective exactly where the flag is on.
+fn is_given(alloc: Global, raised: bool) -> bool {
+    let kill = CapSet::none().with(Cap::Kill);
+    let Some(file) = FileCaps::from_state(&CapState {
+        e: if raised { kill } else { CapSet::none() },
+        i: CapSet::none(),
+        p: kill,
+    }) else {
+        return false;
+    };
+    let mut creds = creds(alloc, CapSet::none());
+    creds.exec_transform(&file, &kill, None, None);
+    creds.caps.p == kill && creds.caps.e.has(Cap::Kill) == raised
+}
+
+#[test]
+fn flag_makes_effective(rt: HostRuntime) {
+    assert!(rt; is_given(rt.alloc(), true));
+    assert!(rt; is_given(rt.alloc(), false));
 }
 
 fn is_copied(creds: &Creds) -> Result<bool, NoMemory> {

@@ -2,7 +2,7 @@
 ghost use Rattle.std.specs.Prelude.{IfSome};
 ghost use Rattle.kern_model.specs.World.{IsWorld};
 
-use cap_bits::{Cap, CapSet, CapState};
+use cap_bits::{Cap, CapSet, CapState, FileCaps};
 use kern_core::Kernel;
 use kern_model::{
     Attr, Body, ByteList, GroupList, Ids, Mode, Name, ObjectList, Path, Pid, ProcList, Rec,
@@ -24,7 +24,7 @@ fn attr(mode: Mode) -> Attr {
         owner: OWNER,
         group: OWNER,
         mode,
-        caps: CapState::none(),
+        caps: FileCaps::none(),
     }
 }
 

@@ -1,5 +1,5 @@
 // Worlds, and whether each is valid; places and endings as they are written.
-use cap_bits::{CapSet, CapState};
+use cap_bits::{CapSet, CapState, FileCaps};
 use fs_path::{ByteList, PathError};
 use kern_model::*;
 use lab_lattice::{Cats, Label, Level, Pair, bottom};
@@ -42,7 +42,7 @@ fn add(
             owner: 0,
             group: 0,
             mode: 0o644,
-            caps: CapState::none(),
+            caps: FileCaps::none(),
         },
         body: body(alloc, kind),
     })?;

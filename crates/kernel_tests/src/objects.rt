@@ -1,5 +1,5 @@
 // What no clause says: that the calls succeed with ample memory.
-use cap_bits::CapState;
+use cap_bits::FileCaps;
 use fs_nodes::{Buffers, NodeError, Nodes, WriteError};
 use kern_model::{Attr, Body, ByteList, Kind, Oid};
 use lab_lattice::bottom;
@@ -10,7 +10,7 @@ fn attr() -> Attr {
         owner: 1,
         group: 2,
         mode: 0o644,
-        caps: CapState::none(),
+        caps: FileCaps::none(),
     }
 }
 

@@ -1,5 +1,5 @@
 // What no clause says: that with ample memory there is a new tree.
-use cap_bits::CapState;
+use cap_bits::FileCaps;
 use fs_dirs::{Tree, root_directory};
 use kern_model::{Attr, Kind, NoMemory};
 use lab_lattice::bottom;
@@ -10,7 +10,7 @@ fn attr() -> Attr {
         owner: 1,
         group: 2,
         mode: 0o755,
-        caps: CapState::none(),
+        caps: FileCaps::none(),
     }
 }
 

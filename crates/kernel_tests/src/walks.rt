@@ -1,5 +1,5 @@
 // What no clause says: that with ample memory a walk finds, and how it stops. Whole walks are tried by the cases.
-use cap_bits::{CapSet, CapState};
+use cap_bits::{CapSet, CapState, FileCaps};
 use chk_rules::Checks;
 use fd_table::FdTable;
 use fs_dirs::{Tree, root_directory};
@@ -20,7 +20,7 @@ fn attr(mode: Mode) -> Attr {
         owner: OWNER,
         group: OWNER,
         mode,
-        caps: CapState::none(),
+        caps: FileCaps::none(),
     }
 }
 

@@ -5,8 +5,8 @@ use Rattle.std.specs.Prelude.{Result}
 use Rattle.kern_model.specs.declared.records.Outcome.{Outcome}
 use Rattle.kern_model.specs.declared.records.Rec.{Rec}
 use Rattle.kern_model.specs.declared.world.ScriptItem.{ScriptItem}
-use Rattle.kern_model.specs.Isolation.{crossing, low}
-use Rattle.kern_model.specs.Run.{CallRecord, played}
+use Rattle.kern_model.specs.Isolation.{any_crosses, low}
+use Rattle.kern_model.specs.Run.{CallRecord, item_record}
 use Rattle.kern_model.specs.State.{State}
 use Rattle.kern_model.specs.Step.{IsPlayed, StepResult}
 use Rattle.lab_text.specs.Policy.{PolicyNames}
@@ -27,7 +27,7 @@ pub shown_writes : {T : Type 0} (result : Result T Fault) (policy : PolicyNames)
 shown_writes result policy n recs x y e f is w = in_order result _ _ e f (ap (λ (q : Shown). before_reply q policy n recs) (sym is)) w
 
 -- what was played of an item, by its outcome
-pub by_outcome : (s t : State) (i : ScriptItem) (o : Outcome) → IsPlayed s i.who i.call o t → call_record i.who i.head o ≡ played s i
+pub by_outcome : (s t : State) (i : ScriptItem) (o : Outcome) → IsPlayed s i.who i.call o t → call_record i.who i.head o ≡ item_record s i
 by_outcome s t i o is = ap {A = StepResult} {B = CallRecord} (λ x. record { who = i.who; head = i.head; reply = x.reply; recs = x.recs }) (sym is)
 
 module _ (policy : PolicyNames) (n : ℕ) (p : CallRecord) where
@@ -43,7 +43,7 @@ module _ (policy : PolicyNames) (n : ℕ) (p : CallRecord) where
   pub call_by_parts : (r : Report) → by_parts (call_sends r policy n p) (shown_of r p.who p.recs)
   unfolding call_sends call_order
   call_by_parts All = refl
-  call_by_parts (Below l k) = below_by_parts (crossing l p.recs) (low l p.who.label)
+  call_by_parts (Below l k) = below_by_parts (any_crosses l p.recs) (low l p.who.label)
   call_by_parts Crossed = refl
   call_by_parts (Counted t) = refl
 

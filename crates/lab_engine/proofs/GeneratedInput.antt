@@ -5,7 +5,7 @@ use Rattle.std.specs.List.{concat}
 use Rattle.std.proofs.lemmas.Bool.{le-ltb}
 use Rattle.std.proofs.lemmas.List.{take_all}
 use Rattle.std.proofs.lemmas.List.Elements.{All-drop, All-head, All-tail}
-use Rattle.gen_world.specs.Calls.{call_line, call_of, ended}
+use Rattle.gen_world.specs.Calls.{call_line, call_of, with_line_feed}
 use Rattle.gen_world.specs.Text.{gen_lines, gen_text, head_lines, lines_after, step}
 use Rattle.gen_world.proofs.LineLaws.{Fits, gen_lines_fit, gen_text_split}
 use Rattle.kern_model.specs.declared.limits.TheConstants.{MAX_INPUT}
@@ -14,9 +14,10 @@ use Rattle.script_text.specs.declared.line.Line.{Line}
 use Rattle.script_text.specs.declared.fault.LineError.{LineError}
 use Rattle.script_text.specs.Line.{parse_line}
 use Rattle.world_text.specs.declared.expecting.Expecting.TheVariants as at
-use Rattle.world_text.specs.Reading.{Accepted as AcceptedWorld, reading}
+use Rattle.world_text.specs.declared.format.Format.TheVariants.{Two}
+use Rattle.world_text.specs.Reading.{Accepted as AcceptedWorld, Reading, read_lines, read_text}
 use Rattle.lab_engine.specs.declared.ending.InputEnd.TheVariants.{Whole}
-use Rattle.lab_engine.specs.Input.{Accepted, Input, Script, after_line, input_by, input_of, of_world, read_input, script_from}
+use Rattle.lab_engine.specs.Input.{Accepted, Input, Script, after_line, begun_by, begun_in, input_from, input_in, input_of, of_world, script_from}
 use Rattle.lab_engine.proofs.GeneratedLines.{IsCall, is_call, policy}
 use Rattle.lab_engine.proofs.GeneratedWorld.{generated_world, head_read, its_names, four_procs}
 
@@ -62,12 +63,12 @@ unfolding lines_after
 lines_length zero number = refl
 lines_length (suc count) number = ap suc (lines_length count (step number))
 
-text_length : (lines : List (List ℕ)) → All (Fits 32) lines → length (concat (map ended lines)) ≤ 33 * length lines
+text_length : (lines : List (List ℕ)) → All (Fits 32) lines → length (concat (map with_line_feed lines)) ≤ 33 * length lines
 text_length [] fits = omega arith
 text_length (line ∷ lines) fits =
     let short = (All-head (Fits 32) line lines fits).short in
     let rest = text_length lines (All-tail (Fits 32) line lines fits) in
-    omega (arith, short, rest, length-append line (10 ∷ []), length-append (ended line) (concat (map ended lines)))
+    omega (arith, short, rest, length-append line (10 ∷ []), length-append (with_line_feed line) (concat (map with_line_feed lines)))
 
 -- the text is shorter than an input may be
 text_short : (n : ℕ) → n ≤ 100000 → length (gen_text n) ≤ MAX_INPUT
@@ -76,16 +77,16 @@ text_short n few = omega (arith, few, text_length (gen_lines n) (gen_lines_fit n
 
 -- ---- the input
 
-text_read : (lines : List (List ℕ)) → IsMore lines → reading 1 at.Format (head_lines ++ lines) ≡ AcceptedWorld generated_world 15 lines
-text_read lines more = ap (λ (ls : List (List ℕ)). reading 1 at.Format (head_lines ++ ls)) more.is ∙ head_read more.first more.rest ∙ sym (ap (AcceptedWorld generated_world 15) more.is)
+text_read : (lines : List (List ℕ)) → IsMore lines → read_lines 1 (at.Format Two) (head_lines ++ lines) ≡ AcceptedWorld generated_world 15 lines
+text_read lines more = ap (λ (ls : List (List ℕ)). read_lines 1 (at.Format Two) (head_lines ++ ls)) more.is ∙ head_read more.first more.rest ∙ sym (ap (AcceptedWorld generated_world 15) more.is)
 
 input_is : (n : ℕ) → n ≤ 100000 → input_of (gen_text n) ≡ of_world false generated_world 15 (lines_after n n ++ [] ∷ [])
-unfolding input_of
+unfolding input_in begun_in
 input_is n few =
     let short = text_short n few in
-    (λ i. read_input (le-ltb MAX_INPUT (length (gen_text n)) short i) (take_all MAX_INPUT (gen_text n) short i))
-    ∙ ap (λ (ls : List (List ℕ)). input_by false (reading 1 at.Format ls)) (gen_text_split n)
-    ∙ ap (input_by false) (text_read (lines_after n n ++ [] ∷ []) (before_last (lines_after n n)))
+    (λ i. input_from (begun_by (le-ltb MAX_INPUT (length (gen_text n)) short i) (read_text Two (take_all MAX_INPUT (gen_text n) short i))))
+    ∙ ap (λ (ls : List (List ℕ)). input_from (begun_by false (read_lines 1 (at.Format Two) ls))) (gen_text_split n)
+    ∙ ap (λ (r : Reading). input_from (begun_by false r)) (text_read (lines_after n n ++ [] ∷ []) (before_last (lines_after n n)))
 
 -- an input is a world of four processes and a script of so many calls, to its end
 pub record IsWholeInput (calls : ℕ) (input : Input) : Type 0 where

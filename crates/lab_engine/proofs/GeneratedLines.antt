@@ -37,7 +37,7 @@ use Rattle.script_text.specs.Calls.{one_parsed, parse_call, three_parsed, two, t
 use Rattle.script_text.specs.Line.{bytes_in, item_by, parse_item, parse_line, parse_words}
 use Rattle.script_text.specs.Reading.{Reading, both, map_reading}
 use Rattle.sec_utils.specs.Tools.{tool_named}
-use Rattle.world_text.specs.Written.{bare, quoted}
+use Rattle.world_text.specs.Written.{bare, quoted_form}
 
 -- the names of the generated world
 abbrev pub policy : PolicyNames
@@ -99,7 +99,7 @@ file_value d f small few = has_value (file d f) (argument.path (file d f)) (belo
 
 number_value : (f : ℕ) → f < 16 → HasValue (decimal f) (argument.number (decimal f))
 unfolding argument.number
-number_value f small = record { is_bare = decimal_bare f (omega arith); value = f; is = ap (λ (o : Option ℕ). argument.formed o) (number_round_trip f (omega arith)) }
+number_value f small = record { is_bare = decimal_bare f (omega arith); value = f; is = ap (λ (o : Option ℕ). argument.value_or_syntax o) (number_round_trip f (omega arith)) }
 
 -- ---- a line by its words
 
@@ -241,7 +241,7 @@ module _ (number : ℕ) where
 
   write : length (line_for action.Write) ≤ MAX_LINE → IsCall (line_for action.Write)
   unfolding two_parsed quoted_text
-  write short = call_read level name.Write (bare (decimal its_file) ∷ quoted (codes "x") ∷ []) (call.Write at_number.value (codes "x")) (line_for action.Write) (after_tag (words_for action.Write)) of_level refl (and_from _ _ at_number.is_bare refl)
+  write short = call_read level name.Write (bare (decimal its_file) ∷ quoted_form (codes "x") ∷ []) (call.Write at_number.value (codes "x")) (line_for action.Write) (after_tag (words_for action.Write)) of_level refl (and_from _ _ at_number.is_bare refl)
       (two_read call.Write _ _ at_number.value (codes "x") at_number.is write_bytes) short
 
   read_file : length (line_for action.Read) ≤ MAX_LINE → IsCall (line_for action.Read)

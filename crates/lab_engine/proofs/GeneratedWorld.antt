@@ -1,14 +1,15 @@
 -- The head of the generated input is read as a world.
 use Rattle.std.proofs.Common.{◌≡◌, ℕ, ◌+◌, ◌<◌, Bool, true, false, cond, not, List, [], ◌∷◌, ◌++◌, length, codes, refl, ◌∙◌, ap, arith, Option, Some, None}
 use Rattle.std.specs.Prelude.{count_by, is_some, nat_le, nat_lt, option_and_then, drop, take}
-use Rattle.std.specs.Option.{option_map}
 use Rattle.std.proofs.lemmas.Bool.{and_left, both_ways, cond-false, lt-leb, or_right}
 use Rattle.std.proofs.lemmas.List.Sums.{count_by-le-length}
 use Rattle.std.proofs.lemmas.Option.{same_Some}
 use Rattle.cap_bits.specs.declared.state.CapState.{CapState}
 use Rattle.cap_bits.specs.CapSet.{CapSet}
+use Rattle.cap_bits.specs.FileCaps.{no_file_caps}
 use Rattle.cap_bits.specs.Laws.{has-within}
 use Rattle.cap_bits.specs.State.{no_flags}
+use Rattle.cap_bits.proofs.RoundTrips.{uniform-shown}
 use Rattle.cap_clause.specs.Clauses.{caps_named, clause_fault, clauses_of, parse_list, with_clause}
 use Rattle.cap_clause.specs.Parsed.{caps_fault, caps_meant, parse_caps, parse_set}
 use Rattle.fs_path.specs.Name.{Name}
@@ -22,7 +23,7 @@ use Rattle.kern_model.specs.declared.objects.Body.TheVariants as body
 use Rattle.kern_model.specs.declared.world.WorldObject.{WorldObject}
 use Rattle.kern_model.specs.declared.world.WorldProc.{WorldProc}
 use Rattle.kern_model.specs.Kinds.{is_dir, kind_of}
-use Rattle.kern_model.specs.Named.{named}
+use Rattle.kern_model.specs.Named.{find_named}
 use Rattle.kern_model.specs.Rules.{same_label}
 use Rattle.kern_model.specs.World.{object_with_path}
 use Rattle.lab_lattice.specs.Label.{Label, bottom, dominates}
@@ -30,14 +31,14 @@ use Rattle.lab_lattice.proofs.Labels.{dominates_bottom, dominates_itself}
 use Rattle.lab_text.specs.Names.{same_bytes}
 use Rattle.lab_text.specs.Policy.{PolicyNames, with_names, no_names, names_fault, top_of}
 use Rattle.lab_text.specs.declared.lists.NameList.TheVariants.{Levels, Categories}
-use Rattle.lab_text.specs.Text.{LabelWords, label_of as label_of_words, label_text, label_words, labelled, grade_named, parse_label, places_of}
+use Rattle.lab_text.specs.Text.{LabelWords, label_of as label_of_words, label_text, label_words, label_of_parts, grade_named, parse_label, places_of}
 use Rattle.lab_text.proofs.Parsed.{parse_text}
 use Rattle.line_text.specs.declared.fault.LineFault.{LineFault}
 use Rattle.line_text.specs.declared.fault.LineFault.TheVariants.{RootLabel, TooMany}
 use Rattle.world_text.specs.declared.expecting.Expecting.{Expecting}
 use Rattle.world_text.specs.declared.expecting.Expecting.TheVariants as at
 use Rattle.world_text.specs.declared.tree.ObjectFields.{ObjectFields}
-use Rattle.world_text.specs.declared.format.Format.TheVariants.{One}
+use Rattle.world_text.specs.declared.format.Format.TheVariants.{Two}
 use Rattle.world_text.specs.declared.expecting.Parsed.{Parsed}
 use Rattle.world_text.specs.declared.expecting.Parsed.TheVariants.{GoesOn, Begins}
 use Rattle.world_text.specs.declared.expecting.PartialWorld.{PartialWorld}
@@ -47,11 +48,12 @@ use Rattle.world_text.specs.declared.values.WordValue.TheVariants as value
 use Rattle.world_text.specs.declared.world.WorldText.{WorldText}
 use Rattle.world_text.specs.Values.{label_of, refuse_or, with_value}
 use Rattle.world_text.specs.Head.{set_of}
-use Rattle.world_text.specs.TreeLines.{object_fields_of, parse_plain, parse_tree}
+use Rattle.world_text.specs.TreeLines.{object_fields_of, object_of, parse_object, parse_plain, parse_tree}
 use Rattle.world_text.specs.Processes.{parse_proc, parse_proc_line, proc_caps_of, proc_fields_of}
 use Rattle.world_text.specs.Expecting.{parse_line, parse_words, world_of}
 use Rattle.world_text.specs.Placing.{directory_of, is_above, is_directory, is_root, object_fault, process_fault}
-use Rattle.world_text.specs.Reading.{Accepted, after, reading}
+use Rattle.world_text.specs.Reading.{Accepted, after, read_lines}
+use Rattle.world_text.proofs.FileCapsLemmas.{none_by}
 use Rattle.lab_engine.proofs.GeneratedLines.{policy}
 
 -- ---- values of words
@@ -109,7 +111,7 @@ lowest = record { levels = codes "l0" ∷ []; cats = []; grades = [] }
 
 -- what is made of the place of a name in a list of one name, of no categories and of no grade
 by_level : (label : Label) (b : Bool) (cats : List (List ℕ)) (grade : Option (List ℕ))
-    → labelled (cond (nat_lt (cond (not b) 1 0) 1) (Some (cond (not b) 1 0)) None) (places_of [] cats) (grade_named [] grade) ≡ Some label → lowest_value.0 ≡ label
+    → label_of_parts (cond (nat_lt (cond (not b) 1 0) 1) (Some (cond (not b) 1 0)) None) (places_of [] cats) (grade_named [] grade) ≡ Some label → lowest_value.0 ≡ label
 unfolding known label_words lowest_value parse_label
 by_level label true [] None e = same_Some lowest_value.0 label e
 by_level label true [] (Some g) e = absurd (cc)
@@ -138,7 +140,7 @@ level_0 = lowest_value.1 ∙ ap (λ (l : Label). value.Known l) bottom_only
 
 -- a line of the tree is expected, after these objects and processes
 abbrev tree_at : List WorldObject → List WorldProc → Expecting
-tree_at objects procs = at.Tree (record { format = One; policy = policy; bound = bound_value.0; builder = record { objects = objects; procs = procs } })
+tree_at objects procs = at.Tree (record { format = Two; policy = policy; bound = bound_value.0; builder = record { objects = objects; procs = procs } })
 
 -- an absolute path
 abbrev path_at : List Name → PathValue
@@ -146,7 +148,7 @@ path_at names = record { absolute = true; names = names }
 
 -- a directory at a path, with a label
 abbrev dir_at : List Name → Label → WorldObject
-dir_at names label = record { path = path_at names; label = label; attr = record { owner = 0; group = 0; mode = 511; caps = no_flags }; body = body.Dir }
+dir_at names label = record { path = path_at names; label = label; attr = record { owner = 0; group = 0; mode = 511; caps = no_file_caps }; body = body.Dir }
 
 -- fewer items than a limit leave room below it
 few_before : {X : Type 0} (test : X → Bool) (xs : List X) (most : ℕ) → length xs < most → nat_le most (count_by test xs) ≡ false
@@ -179,16 +181,17 @@ dir_words path name = path ∷ codes "0777" ∷ codes "0" ∷ codes "0" ∷ name
 
 -- the line of a directory that has no fault adds it
 dir_line : (done : List WorldObject) (line path name : List ℕ) (names : List Name) (label : Label)
-    → parse_line (tree_at done []) line ≡ parse_plain (record { format = One; policy = policy; bound = bound_value.0; builder = record { objects = done; procs = [] } }) body.Dir (dir_words path name)
+    → parse_line (tree_at done []) line ≡ parse_plain (record { format = Two; policy = policy; bound = bound_value.0; builder = record { objects = done; procs = [] } }) body.Dir (dir_words path name)
     → object_fields_of policy path (codes "0777") (codes "0") (codes "0") name ≡ Some (record { path = path_at names; mode = 511; owner = 0; group = 0; label = label_of policy name })
     → label_of policy name ≡ value.Known label → object_fault (record { objects = done; procs = [] }) (dir_at names label) ≡ None
     → parse_line (tree_at done []) line ≡ GoesOn (tree_at (done ++ dir_at names label ∷ []) [])
 dir_line done line path name names label words fields labelled fits =
-    let w : PartialWorld = record { format = One; policy = policy; bound = bound_value.0; builder = record { objects = done; procs = [] } } in
+    let w : PartialWorld = record { format = Two; policy = policy; bound = bound_value.0; builder = record { objects = done; procs = [] } } in
     let f : WordValue Label → ObjectFields = λ v. record { path = path_at names; mode = 511; owner = 0; group = 0; label = v } in
     words
     ∙ ap (λ (o : Option ObjectFields). parse_tree w o (value.Known no_flags) body.Dir) fields
     ∙ ap (λ (v : WordValue Label). parse_tree w (Some (f v)) (value.Known no_flags) body.Dir) labelled
+    ∙ (λ i. parse_object w (object_of (f (value.Known label)) label (none_by i) body.Dir) (uniform-shown no_file_caps i))
     ∙ ap (λ (o : Option LineFault). refuse_or o (GoesOn (tree_at (done ++ dir_at names label ∷ []) []))) fits
 
 -- the directories after each line
@@ -208,23 +211,23 @@ abbrev all_dirs : List WorldObject
 all_dirs = after_d2 ++ dir_at (codes "d3" ∷ []) level_3.0 ∷ []
 
 root_line : parse_line (tree_at [] []) (codes "dir / 0777 0 0 l0") ≡ GoesOn (tree_at after_root [])
-unfolding parse_line named parse_words words_of is_blank object_fields_of path_fault component_fault components_of parse_path numeral digits_value
+unfolding parse_line find_named parse_words words_of is_blank object_fields_of path_fault component_fault components_of parse_path numeral digits_value
 root_line = dir_line [] (codes "dir / 0777 0 0 l0") (codes "/") (codes "l0") [] bottom refl refl level_0 root_fits
 
 d0_line : parse_line (tree_at after_root []) (codes "dir /d0 0777 0 0 l0") ≡ GoesOn (tree_at after_d0 [])
-unfolding parse_line named parse_words words_of is_blank object_fields_of path_fault component_fault components_of parse_path numeral digits_value
+unfolding parse_line find_named parse_words words_of is_blank object_fields_of path_fault component_fault components_of parse_path numeral digits_value
 d0_line = dir_line after_root (codes "dir /d0 0777 0 0 l0") (codes "/d0") (codes "l0") (codes "d0" ∷ []) bottom refl refl level_0 (dir_fits [] (codes "d0") bottom refl (omega arith))
 
 d1_line : parse_line (tree_at after_d0 []) (codes "dir /d1 0777 0 0 l1") ≡ GoesOn (tree_at after_d1 [])
-unfolding parse_line named parse_words words_of is_blank object_fields_of path_fault component_fault components_of parse_path numeral digits_value
+unfolding parse_line find_named parse_words words_of is_blank object_fields_of path_fault component_fault components_of parse_path numeral digits_value
 d1_line = dir_line after_d0 (codes "dir /d1 0777 0 0 l1") (codes "/d1") (codes "l1") (codes "d1" ∷ []) level_1.0 refl refl level_1.1 (dir_fits _ (codes "d1") level_1.0 refl (omega arith))
 
 d2_line : parse_line (tree_at after_d1 []) (codes "dir /d2 0777 0 0 l2") ≡ GoesOn (tree_at after_d2 [])
-unfolding parse_line named parse_words words_of is_blank object_fields_of path_fault component_fault components_of parse_path numeral digits_value
+unfolding parse_line find_named parse_words words_of is_blank object_fields_of path_fault component_fault components_of parse_path numeral digits_value
 d2_line = dir_line after_d1 (codes "dir /d2 0777 0 0 l2") (codes "/d2") (codes "l2") (codes "d2" ∷ []) level_2.0 refl refl level_2.1 (dir_fits _ (codes "d2") level_2.0 refl (omega arith))
 
 d3_line : parse_line (tree_at after_d2 []) (codes "dir /d3 0777 0 0 l3") ≡ GoesOn (tree_at all_dirs [])
-unfolding parse_line named parse_words words_of is_blank object_fields_of path_fault component_fault components_of parse_path numeral digits_value
+unfolding parse_line find_named parse_words words_of is_blank object_fields_of path_fault component_fault components_of parse_path numeral digits_value
 d3_line = dir_line after_d2 (codes "dir /d3 0777 0 0 l3") (codes "/d3") (codes "l3") (codes "d3" ∷ []) level_3.0 refl refl level_3.1 (dir_fits _ (codes "d3") level_3.0 refl (omega arith))
 
 -- ---- processes
@@ -239,13 +242,13 @@ proc_words name id = name ∷ id ∷ id ∷ codes "-" ∷ codes "=" ∷ []
 
 -- the line of a process adds it
 proc_line : (done : List WorldProc) (line name word : List ℕ) (id : ℕ) (label : Label)
-    → parse_line (tree_at all_dirs done) line ≡ parse_proc_line (record { format = One; policy = policy; bound = bound_value.0; builder = record { objects = all_dirs; procs = done } }) (proc_words name word)
+    → parse_line (tree_at all_dirs done) line ≡ parse_proc_line (record { format = Two; policy = policy; bound = bound_value.0; builder = record { objects = all_dirs; procs = done } }) (proc_words name word)
     → proc_fields_of policy name word word (codes "-") ≡ Some (record { label = label_of policy name; user = id; group = id; groups = [] })
     → label_of policy name ≡ value.Known label → length done < MAX_PROCS
     → parse_line (tree_at all_dirs done) line ≡ GoesOn (tree_at all_dirs (done ++ proc_at id label ∷ []))
 unfolding process_fault
 proc_line done line name word id label words fields labelled few =
-    let w : PartialWorld = record { format = One; policy = policy; bound = bound_value.0; builder = record { objects = all_dirs; procs = done } } in
+    let w : PartialWorld = record { format = Two; policy = policy; bound = bound_value.0; builder = record { objects = all_dirs; procs = done } } in
     let f : WordValue Label → ProcFields = λ v. record { label = v; user = id; group = id; groups = [] } in
     words
     ∙ ap (λ (o : Option ProcFields). parse_proc w o (proc_caps_of (codes "="))) fields
@@ -266,45 +269,45 @@ abbrev all_procs : List WorldProc
 all_procs = after_p2 ++ proc_at 103 level_3.0 ∷ []
 
 p0_line : parse_line (tree_at all_dirs []) (codes "proc l0 100 100 - \"=\"") ≡ GoesOn (tree_at all_dirs after_p0)
-unfolding parse_line named parse_words words_of is_blank proc_fields_of groups_of numeral digits_value
+unfolding parse_line find_named parse_words words_of is_blank proc_fields_of groups_of numeral digits_value
 p0_line = proc_line [] (codes "proc l0 100 100 - \"=\"") (codes "l0") (codes "100") 100 bottom refl refl level_0 (omega arith)
 
 p1_line : parse_line (tree_at all_dirs after_p0) (codes "proc l1 101 101 - \"=\"") ≡ GoesOn (tree_at all_dirs after_p1)
-unfolding parse_line named parse_words words_of is_blank proc_fields_of groups_of numeral digits_value
+unfolding parse_line find_named parse_words words_of is_blank proc_fields_of groups_of numeral digits_value
 p1_line = proc_line after_p0 (codes "proc l1 101 101 - \"=\"") (codes "l1") (codes "101") 101 level_1.0 refl refl level_1.1 (omega arith)
 
 p2_line : parse_line (tree_at all_dirs after_p1) (codes "proc l2 102 102 - \"=\"") ≡ GoesOn (tree_at all_dirs after_p2)
-unfolding parse_line named parse_words words_of is_blank proc_fields_of groups_of numeral digits_value
+unfolding parse_line find_named parse_words words_of is_blank proc_fields_of groups_of numeral digits_value
 p2_line = proc_line after_p1 (codes "proc l2 102 102 - \"=\"") (codes "l2") (codes "102") 102 level_2.0 refl refl level_2.1 (omega arith)
 
 p3_line : parse_line (tree_at all_dirs after_p2) (codes "proc l3 103 103 - \"=\"") ≡ GoesOn (tree_at all_dirs all_procs)
-unfolding parse_line named parse_words words_of is_blank proc_fields_of groups_of numeral digits_value
+unfolding parse_line find_named parse_words words_of is_blank proc_fields_of groups_of numeral digits_value
 p3_line = proc_line after_p2 (codes "proc l3 103 103 - \"=\"") (codes "l3") (codes "103") 103 level_3.0 refl refl level_3.1 (omega arith)
 
 -- ---- the head
 
-format_line : parse_line at.Format (codes "world 1") ≡ GoesOn (at.Names One Levels no_names)
-unfolding parse_line named parse_words words_of is_blank
+format_line : parse_line (at.Format Two) (codes "world 2") ≡ GoesOn (at.Names Two Levels no_names)
+unfolding parse_line find_named parse_words words_of is_blank
 format_line = refl
 
-levels_line : parse_line (at.Names One Levels no_names) (codes "levels l0 l1 l2 l3") ≡ GoesOn (at.Names One Categories (with_names no_names Levels policy.levels))
+levels_line : parse_line (at.Names Two Levels no_names) (codes "levels l0 l1 l2 l3") ≡ GoesOn (at.Names Two Categories (with_names no_names Levels policy.levels))
 unfolding parse_line parse_words words_of is_blank names_fault
 levels_line = refl
 
-categories_line : parse_line (at.Names One Categories (with_names no_names Levels policy.levels)) (codes "categories c0 c1") ≡ GoesOn (at.Grades One policy)
+categories_line : parse_line (at.Names Two Categories (with_names no_names Levels policy.levels)) (codes "categories c0 c1") ≡ GoesOn (at.Grades Two policy)
 unfolding parse_line parse_words words_of is_blank names_fault
 categories_line = refl
 
-bound_line : parse_line (at.Grades One policy) (codes "bound all") ≡ GoesOn (tree_at [] [])
+bound_line : parse_line (at.Grades Two policy) (codes "bound all") ≡ GoesOn (tree_at [] [])
 unfolding parse_line parse_words words_of is_blank
-bound_line = ap (λ (v : WordValue CapSet). with_value v (λ bound. GoesOn (at.Tree (record { format = One; policy = policy; bound = bound; builder = record { objects = []; procs = [] } })))) bound_value.1
+bound_line = ap (λ (v : WordValue CapSet). with_value v (λ bound. GoesOn (at.Tree (record { format = Two; policy = policy; bound = bound; builder = record { objects = []; procs = [] } })))) bound_value.1
 
 -- the world of the generated input
 pub generated_world : WorldText
-generated_world = world_of (record { format = One; policy = policy; bound = bound_value.0; builder = record { objects = all_dirs; procs = all_procs } })
+generated_world = world_of (record { format = Two; policy = policy; bound = bound_value.0; builder = record { objects = all_dirs; procs = all_procs } })
 
 script_line : parse_line (tree_at all_dirs all_procs) (codes "script") ≡ Begins generated_world
-unfolding generated_world parse_line named parse_words words_of is_blank
+unfolding generated_world parse_line find_named parse_words words_of is_blank
 script_line = refl
 
 -- lines lead from what is expected before them to what is expected after them
@@ -312,15 +315,15 @@ abbrev ReadsOn : Expecting → List (List ℕ) → Expecting → Type 0
 ReadsOn expecting [] last = expecting ≡ last
 ReadsOn expecting (line ∷ lines) last = (next : Expecting) × (parse_line expecting line ≡ GoesOn next) × ReadsOn next lines last
 
-read_on : (n : ℕ) (expecting last : Expecting) (lines : List (List ℕ)) (p : List ℕ) (ps : List (List ℕ)) → ReadsOn expecting lines last → reading n expecting (lines ++ p ∷ ps) ≡ reading (n + length lines) last (p ∷ ps)
-unfolding reading
-read_on n expecting last [] p ps reads = let same : n ≡ n + 0 = omega arith in λ i. reading (same i) (reads i) (p ∷ ps)
+read_on : (n : ℕ) (expecting last : Expecting) (lines : List (List ℕ)) (p : List ℕ) (ps : List (List ℕ)) → ReadsOn expecting lines last → read_lines n expecting (lines ++ p ∷ ps) ≡ read_lines (n + length lines) last (p ∷ ps)
+unfolding read_lines
+read_on n expecting last [] p ps reads = let same : n ≡ n + 0 = omega arith in λ i. read_lines (same i) (reads i) (p ∷ ps)
 read_on n expecting last (line ∷ []) p ps reads =
-    ap (λ (parsed : Parsed). after parsed n (p ∷ ps) (λ next. reading (n + 1) next (p ∷ ps))) reads.1 ∙ ap (λ next. reading (n + 1) next (p ∷ ps)) reads.2
+    ap (λ (parsed : Parsed). after parsed n (p ∷ ps) (λ next. read_lines (n + 1) next (p ∷ ps))) reads.1 ∙ ap (λ next. read_lines (n + 1) next (p ∷ ps)) reads.2
 read_on n expecting last (line ∷ other ∷ lines) p ps reads =
     let same : n + 1 + length (other ∷ lines) ≡ n + length (line ∷ other ∷ lines) = omega arith in
-    ap (λ (parsed : Parsed). after parsed n (other ∷ lines ++ p ∷ ps) (λ next. reading (n + 1) next (other ∷ lines ++ p ∷ ps))) reads.1
-    ∙ read_on (n + 1) reads.0 last (other ∷ lines) p ps reads.2 ∙ ap (λ k. reading k last (p ∷ ps)) same
+    ap (λ (parsed : Parsed). after parsed n (other ∷ lines ++ p ∷ ps) (λ next. read_lines (n + 1) next (other ∷ lines ++ p ∷ ps))) reads.1
+    ∙ read_on (n + 1) reads.0 last (other ∷ lines) p ps reads.2 ∙ ap (λ k. read_lines k last (p ∷ ps)) same
 
 -- the head without its last line
 abbrev before_script : List (List ℕ)
@@ -332,16 +335,16 @@ procs_read_on = (tree_at all_dirs after_p0, p0_line, (tree_at all_dirs after_p1,
 tree_reads_on : ReadsOn (tree_at [] []) (drop 4 before_script) (tree_at all_dirs all_procs)
 tree_reads_on = (tree_at after_root [], root_line, (tree_at after_d0 [], d0_line, (tree_at after_d1 [], d1_line, (tree_at after_d2 [], d2_line, (tree_at all_dirs [], d3_line, procs_read_on)))))
 
-head_reads_on : ReadsOn at.Format before_script (tree_at all_dirs all_procs)
-head_reads_on = (at.Names One Levels no_names, format_line, (at.Names One Categories (with_names no_names Levels policy.levels), levels_line, (at.Grades One policy, categories_line, (tree_at [] [], bound_line, tree_reads_on))))
+head_reads_on : ReadsOn (at.Format Two) before_script (tree_at all_dirs all_procs)
+head_reads_on = (at.Names Two Levels no_names, format_line, (at.Names Two Categories (with_names no_names Levels policy.levels), levels_line, (at.Grades Two policy, categories_line, (tree_at [] [], bound_line, tree_reads_on))))
 
-script_begins : (n : ℕ) (p : List ℕ) (ps : List (List ℕ)) → reading n (tree_at all_dirs all_procs) (codes "script" ∷ p ∷ ps) ≡ Accepted generated_world (n + 1) (p ∷ ps)
-unfolding reading
-script_begins n p ps = ap (λ (parsed : Parsed). after parsed n (p ∷ ps) (λ next. reading (n + 1) next (p ∷ ps))) script_line
+script_begins : (n : ℕ) (p : List ℕ) (ps : List (List ℕ)) → read_lines n (tree_at all_dirs all_procs) (codes "script" ∷ p ∷ ps) ≡ Accepted generated_world (n + 1) (p ∷ ps)
+unfolding read_lines
+script_begins n p ps = ap (λ (parsed : Parsed). after parsed n (p ∷ ps) (λ next. read_lines (n + 1) next (p ∷ ps))) script_line
 
 -- the head is read as the world, and the script begins after it
-pub head_read : (p : List ℕ) (ps : List (List ℕ)) → reading 1 at.Format (head_lines ++ p ∷ ps) ≡ Accepted generated_world 15 (p ∷ ps)
-head_read p ps = read_on 1 at.Format (tree_at all_dirs all_procs) before_script (codes "script") (p ∷ ps) head_reads_on ∙ script_begins 14 p ps
+pub head_read : (p : List ℕ) (ps : List (List ℕ)) → read_lines 1 (at.Format Two) (head_lines ++ p ∷ ps) ≡ Accepted generated_world 15 (p ∷ ps)
+head_read p ps = read_on 1 (at.Format Two) (tree_at all_dirs all_procs) before_script (codes "script") (p ∷ ps) head_reads_on ∙ script_begins 14 p ps
 
 -- the world has four processes, and the names are those of its head
 pub four_procs : length generated_world.world.procs ≡ 4

@@ -16,7 +16,7 @@ use Rattle.lab_engine.specs.declared.reporting.Report.TheVariants.{All}
 use Rattle.lab_engine.specs.Order.{Sent}
 use Rattle.lab_engine.specs.Playing.{Ends, Sends, SendsAll, StopsBy, ends}
 use Rattle.lab_engine.specs.Readable.{AreReadable, IsReadable}
-use Rattle.lab_engine.specs.Report.{call_sends, report_after, report_after_call, reported}
+use Rattle.lab_engine.specs.Report.{call_sends, report_after, report_after_call, sends_from}
 use Rattle.lab_engine.specs.Reporter.{HoldReports, HoldReportsSince, call_on, calls_seen}
 use Rattle.lab_engine.specs.Session.{numbered_from}
 use Rattle.lab_engine.proofs.ReadableLemmas.{with_numbers}
@@ -31,15 +31,15 @@ unfolding report_after
 after_calls r [] more = refl
 after_calls r (p ∷ ps) more = after_calls (report_after_call r p) ps more
 
-reported_calls : (policy : PolicyNames) (r : Report) (n : ℕ) (ps more : List CallRecord) → reported r policy n (ps ++ more) ≡ reported r policy n ps ++ reported (report_after r ps) policy (n + length ps) more
-unfolding reported report_after
-reported_calls policy r n [] more = let none : n ≡ n + 0 = omega arith in ap (λ k. reported r policy k more) none
+reported_calls : (policy : PolicyNames) (r : Report) (n : ℕ) (ps more : List CallRecord) → sends_from r policy n (ps ++ more) ≡ sends_from r policy n ps ++ sends_from (report_after r ps) policy (n + length ps) more
+unfolding sends_from report_after
+reported_calls policy r n [] more = let none : n ≡ n + 0 = omega arith in ap (λ k. sends_from r policy k more) none
 reported_calls policy r n (p ∷ ps) more =
     let q = report_after_call r p in
     let later : (n + 1) + length ps ≡ n + length (p ∷ ps) = omega arith in
     ap (λ (o : List Sent). call_sends r policy n p ++ o) (reported_calls policy q (n + 1) ps more)
-    ∙ sym (append_assoc (call_sends r policy n p) (reported q policy (n + 1) ps) (reported (report_after q ps) policy ((n + 1) + length ps) more))
-    ∙ ap (λ k. (call_sends r policy n p ++ reported q policy (n + 1) ps) ++ reported (report_after q ps) policy k more) later
+    ∙ sym (append_assoc (call_sends r policy n p) (sends_from q policy (n + 1) ps) (sends_from (report_after q ps) policy ((n + 1) + length ps) more))
+    ∙ ap (λ k. (call_sends r policy n p ++ sends_from q policy (n + 1) ps) ++ sends_from (report_after q ps) policy k more) later
 
 numbered_calls : (n : ℕ) (ps : List CallRecord) (p : CallRecord) → numbered_from n (ps ++ p ∷ []) ≡ numbered_from n ps ++ map (λ (r : Rec). (n + length ps, r)) p.recs
 numbered_calls n [] p =
@@ -56,7 +56,7 @@ numbered_calls n (q ∷ qs) p =
 
 -- no call was seen
 held_at_start : (policy : PolicyNames) (r : Report) (e : Ends) → HoldReports policy r r [] [] e e
-unfolding reported report_after
+unfolding sends_from report_after
 held_at_start policy r e = record { front = []; rest = []; next = refl; sends = (all_nothing e).sends; report = λ _. refl; readable = λ _. tt; one = omega arith }
 
 -- a prefix of nothing
@@ -69,30 +69,30 @@ no_call p is = grind rules
 
 module _ (policy : PolicyNames) (first now : Report) (seen stopped : List CallRecord) (before after : Ends) (k : HoldReports policy first now seen stopped before after) (none : stopped ≡ []) where
   -- no call was stopped so far
-  whole : reported first policy 1 seen ++ k.front ≡ reported first policy 1 seen
-  unfolding reported
+  whole : sends_from first policy 1 seen ++ k.front ≡ sends_from first policy 1 seen
+  unfolding sends_from
   whole =
-      ap (λ (o : List Sent). reported first policy 1 seen ++ o) (none_before k.front k.rest (sym (ap (reported (report_after first seen) policy (length seen + 1)) none) ∙ k.next))
-      ∙ append-nil (reported first policy 1 seen)
+      ap (λ (o : List Sent). sends_from first policy 1 seen ++ o) (none_before k.front k.rest (sym (ap (sends_from (report_after first seen) policy (length seen + 1)) none) ∙ k.next))
+      ∙ append-nil (sends_from first policy 1 seen)
 
-  sent : Sends (reported first policy 1 seen) before after
+  sent : Sends (sends_from first policy 1 seen) before after
   sent = subst (λ (o : List Sent). Sends o before after) whole k.sends
 
   module _ (n : ℕ) (is : n ≡ length seen + 1) (p : CallRecord) where
     -- what is reported of the next call
-    next_call : call_sends now policy n p ≡ reported (report_after first seen) policy (length seen + 1) (p ∷ [])
-    unfolding reported
+    next_call : call_sends now policy n p ≡ sends_from (report_after first seen) policy (length seen + 1) (p ∷ [])
+    unfolding sends_from
     next_call =
         ap (λ (r : Report). call_sends r policy n p) (k.report none)
         ∙ ap (λ m. call_sends (report_after first seen) policy m p) is
         ∙ sym (append-nil (call_sends (report_after first seen) policy (length seen + 1) p))
 
-    with_call : reported first policy 1 seen ++ call_sends now policy n p ≡ reported first policy 1 (seen ++ p ∷ []) ++ []
+    with_call : sends_from first policy 1 seen ++ call_sends now policy n p ≡ sends_from first policy 1 (seen ++ p ∷ []) ++ []
     with_call =
         let later : length seen + 1 ≡ 1 + length seen = omega arith in
-        ap (λ (o : List Sent). reported first policy 1 seen ++ o) (next_call ∙ ap (λ m. reported (report_after first seen) policy m (p ∷ [])) later)
+        ap (λ (o : List Sent). sends_from first policy 1 seen ++ o) (next_call ∙ ap (λ m. sends_from (report_after first seen) policy m (p ∷ [])) later)
         ∙ sym (reported_calls policy first 1 seen (p ∷ []))
-        ∙ sym (append-nil (reported first policy 1 (seen ++ p ∷ [])))
+        ∙ sym (append-nil (sends_from first policy 1 (seen ++ p ∷ [])))
 
     -- its records are readable, as those before it
     records_more : (first ≡ All) → (now ≡ All → AreReadable policy n p.recs) → AllByRecursion (IsReadable policy) (numbered_from 1 (seen ++ p ∷ []))
@@ -103,12 +103,12 @@ module _ (policy : PolicyNames) (first now : Report) (seen stopped : List CallRe
 
     -- the call was reported
     held_more : (now' : Report) (later : Ends) → now' ≡ report_after_call now p → (now ≡ All → AreReadable policy n p.recs) → SendsAll (call_sends now policy n p) after later → HoldReports policy first now' (seen ++ p ∷ []) stopped before later
-    unfolding reported report_after
+    unfolding sends_from report_after
     held_more now' later taken own sends = record {
       front = [];
       rest = [];
-      next = ap (reported (report_after first (seen ++ p ∷ [])) policy (length (seen ++ p ∷ []) + 1)) none;
-      sends = subst (λ (o : List Sent). Sends o before later) with_call (sends_more (reported first policy 1 seen) (call_sends now policy n p) before after later sent sends.sends);
+      next = ap (sends_from (report_after first (seen ++ p ∷ [])) policy (length (seen ++ p ∷ []) + 1)) none;
+      sends = subst (λ (o : List Sent). Sends o before later) with_call (sends_more (sends_from first policy 1 seen) (call_sends now policy n p) before after later sent sends.sends);
       report = λ _. taken ∙ ap (λ (r : Report). report_after_call r p) (k.report none) ∙ sym (after_calls first seen (p ∷ []));
       readable = λ all. records_more all own;
       one = k.one;
@@ -120,7 +120,7 @@ module _ (policy : PolicyNames) (first now : Report) (seen stopped : List CallRe
       front = stop.sends.sent;
       rest = stop.sends.rest;
       next = sym next_call ∙ stop.sends.prefix;
-      sends = sends_more (reported first policy 1 seen) stop.sends.sent before after later sent stop.sends.sends;
+      sends = sends_more (sends_from first policy 1 seen) stop.sends.sent before after later sent stop.sends.sends;
       report = λ e. absurd (no_call p e);
       readable = k.readable;
       one = omega arith;

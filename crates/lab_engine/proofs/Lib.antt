@@ -1,3 +1,4 @@
+pub mod LeftLemmas
 pub mod ReadLemmas
 pub mod Sending
 pub mod ScriptLemmas
@@ -12,6 +13,8 @@ pub mod Progress
 pub mod WorldProgress
 pub mod OpenLemmas
 pub mod ScriptSteps
+pub mod UpgradeLemmas
+pub mod UpgradeLaws
 pub mod ReadableLemmas
 pub mod CallLemmas
 pub mod ToolLemmas

@@ -5,19 +5,19 @@ use Rattle.std.specs.List.{concat}
 use Rattle.std.specs.Result.{is_err}
 use Rattle.std.proofs.lemmas.List.{drop-drop, length-drop, nil_from_length, take_rest}
 use Rattle.std.proofs.lemmas.List.Elements.{All-cons, All-drop, All-head, All-map}
-use Rattle.gen_world.specs.Calls.{ended}
+use Rattle.gen_world.specs.Calls.{with_line_feed}
 use Rattle.gen_world.specs.Text.{head_lines, lines_after, pieces}
 use Rattle.lab_engine.specs.Generated.{NoneEmpty}
 
 -- a line has its line feed
-ended_some : (line : List ℕ) → 0 < length (ended line)
+ended_some : (line : List ℕ) → 0 < length (with_line_feed line)
 ended_some line = omega (arith, length-append line (10 ∷ []))
 
 -- no piece of the generated text is empty
 pub pieces_some : (n : ℕ) → NoneEmpty (pieces n)
 pieces_some n =
     let lines = lines_after n n in
-    All-cons (λ piece. 0 < length piece) (concat (map ended head_lines)) (map ended lines) (omega arith) (All-map (λ piece. 0 < length piece) ended lines (λ k d in'. ended_some _))
+    All-cons (λ piece. 0 < length piece) (concat (map with_line_feed head_lines)) (map with_line_feed lines) (omega arith) (All-map (λ piece. 0 < length piece) with_line_feed lines (λ k d in'. ended_some _))
 
 -- what is left is the rest of a piece and the pieces after it, and the piece is used up only where these are too
 pub record Ready (left : List ℕ) (at : ℕ) (piece : List ℕ) (after : List (List ℕ)) : Type 0 where

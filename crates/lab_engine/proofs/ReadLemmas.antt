@@ -1,7 +1,7 @@
 -- What each answer of a reader of lines says of the world, and of the script, that is left at it.
-use Rattle.std.proofs.Common.{◌≡◌, ◌⊎◌, inl, inr, ℕ, ◌+◌, ◌≤◌, ◌<◌, Bool, true, false, cond, zero, suc, List, [], ◌∷◌, ◌++◌, length, take, refl, sym, ◌∙◌, ap, subst, arith, append_assoc, Option, Some, None}
+use Rattle.std.proofs.Common.{◌≡◌, ◌⊎◌, inl, inr, ℕ, ◌+◌, ◌≤◌, ◌<◌, Bool, true, false, cond, zero, suc, List, [], ◌∷◌, ◌++◌, length, take, refl, sym, ◌∙◌, ap, subst, arith, Option, None}
 use Rattle.std.proofs.lemmas.Bool.{le-ltb, lt-ltb}
-use Rattle.std.proofs.lemmas.List.{append-nil, take_all}
+use Rattle.std.proofs.lemmas.List.{take_all}
 use Rattle.std.specs.Prelude.{nat_lt, IsErrAnd, Result, Ok, Err}
 use Rattle.std.specs.Io.KnownBytes.{IsAtEnd}
 use Rattle.fs_path.specs.Split.{pieces}
@@ -13,7 +13,6 @@ use Rattle.io_ends.specs.declared.whole.ReadError.TheVariants as read
 use Rattle.io_ends.specs.Lines.{Advances, Answers, GivesLine, has_line_feed, HoldsLongLine, HoldsPart}
 use Rattle.io_ends.specs.Whole.{CountsRead}
 use Rattle.io_ends.specs.LinesState.{LinesState}
-use Rattle.io_ends.proofs.LineLaws.{over_line, over_past, pieces_line, pieces_long, pieces_part, pieces_past}
 use Rattle.fs_path.specs.declared.words.TheConstants.{MAX_LINE}
 use Rattle.lab_text.specs.Policy.{PolicyNames, top_of}
 use Rattle.line_text.specs.declared.fault.LineFault.{LineFault}
@@ -32,7 +31,7 @@ use Rattle.world_text.specs.declared.world.WorldText.{WorldText}
 use Rattle.fs_path.specs.Words.{is_blank, words_of}
 use Rattle.world_text.specs.Values.{unless, with_form}
 use Rattle.world_text.specs.Expecting.{parse_line, parse_words}
-use Rattle.world_text.specs.Reading.{after, reading}
+use Rattle.world_text.specs.Reading.{after, read_lines}
 use Rattle.lab_engine.specs.declared.ending.Fault.{Fault}
 use Rattle.lab_engine.specs.declared.ending.Fault.TheVariants.{NoMemory}
 use Rattle.lab_engine.specs.declared.ending.InputEnd.{InputEnd}
@@ -43,16 +42,13 @@ use Rattle.lab_engine.specs.declared.reading.NextLine.TheVariants as next_is
 use Rattle.lab_engine.specs.declared.reading.WorldLine.{WorldLine}
 use Rattle.lab_engine.specs.declared.reading.WorldLine.TheVariants as world_line_is
 use Rattle.lab_engine.specs.Counts.{CountsOnce, counted_by, counts, fault_of_read}
-use Rattle.lab_engine.specs.Input.{Input, Script, after_line, ends_at, input_by, last_piece, no_world, script, script_from}
-use Rattle.lab_engine.specs.Reading.{Accepts, BeginsWith, EndsScript, EndsWorld, Follows, GoesOn, ReadsLine, Takes, input_at, left_of, script_at}
+use Rattle.lab_engine.specs.Input.{Begun, NoWorld, Script, after_line, begun_by, ends_at, input_from, last_piece, script, script_from}
+use Rattle.lab_engine.specs.UpgradeInput.{UpgradeScript, after_kept, fault_in, kept_script, upgrade_at, upgrade_from}
+use Rattle.lab_engine.specs.Reading.{Accepts, BeginsWith, EndsScript, EndsWorld, Follows, GoesOn, ReadsLine, Takes, begun_at, left_of, script_at, script_left}
+use Rattle.lab_engine.proofs.LeftLemmas.{left_failed, left_line, left_long, left_part, left_past, read_left}
 use Rattle.lab_engine.proofs.FewCalls.{few_calls}
 
 -- ---- bytes
-
--- at its end a source has nothing left
-pub nothing_left : (left : Option (List ℕ)) → IsAtEnd left → left_of left ≡ []
-nothing_left None h = refl
-nothing_left (Some bytes) h = h
 
 take_nothing : (n : ℕ) → has_line_feed (take n []) ≡ false
 take_nothing zero = refl
@@ -64,25 +60,46 @@ take_none (suc n) = refl
 
 -- ---- one step of each definition
 
-reading_last : (n : ℕ) (e : Expecting) (last : List ℕ) (ps : List (List ℕ)) → ps ≡ last ∷ [] → (over : Bool) → input_by over (reading n e ps) ≡ no_world (ends_at over n part.World fault.Syntax last)
-unfolding reading
-reading_last n e last ps is over = ap (λ (q : List (List ℕ)). input_by over (reading n e q)) is
+-- what is left is read as the rest of a world, as the rest of a script, or as that of an old script
+abbrev world_by : Expecting → Bool → ℕ → List (List ℕ) → Begun
+world_by e over n ps = begun_by over (read_lines n e ps)
+
+abbrev script_by : PolicyNames → Bool → ℕ → List (List ℕ) → Script
+script_by policy over n ps = script_from over policy n ps
+
+abbrev kept_by : PolicyNames → Bool → ℕ → List (List ℕ) → UpgradeScript
+kept_by policy over n ps = upgrade_from over policy n ps
+
+world_last : (e : Expecting) (over : Bool) (n : ℕ) (last : List ℕ) → world_by e over n (last ∷ []) ≡ NoWorld (ends_at over n part.World fault.Syntax last)
+unfolding read_lines
+world_last e over n last = refl
 
 reading_more : (n : ℕ) (e : Expecting) (line : List ℕ) (ps : List (List ℕ)) (p : List ℕ) (qs : List (List ℕ)) → ps ≡ p ∷ qs
-    → reading n e (line ∷ ps) ≡ after (parse_line e line) n ps (λ next. reading (n + 1) next ps)
-unfolding reading
+    → read_lines n e (line ∷ ps) ≡ after (parse_line e line) n ps (λ next. read_lines (n + 1) next ps)
+unfolding read_lines
 reading_more n e line ps p qs is =
-    ap (λ (r : List (List ℕ)). reading n e (line ∷ r)) is ∙ sym (ap (λ (r : List (List ℕ)). after (parse_line e line) n r (λ next. reading (n + 1) next r)) is)
+    ap (λ (r : List (List ℕ)). read_lines n e (line ∷ r)) is ∙ sym (ap (λ (r : List (List ℕ)). after (parse_line e line) n r (λ next. read_lines (n + 1) next r)) is)
 
-script_last : (over : Bool) (policy : PolicyNames) (n : ℕ) (last : List ℕ) (ps : List (List ℕ)) → ps ≡ last ∷ [] → script_from over policy n ps ≡ script [] (last_piece over n last)
+script_last : (policy : PolicyNames) (over : Bool) (n : ℕ) (last : List ℕ) → script_by policy over n (last ∷ []) ≡ script [] (last_piece over n last)
 unfolding script_from
-script_last over policy n last ps is = ap (script_from over policy n) is
+script_last policy over n last = refl
 
 script_more : (over : Bool) (policy : PolicyNames) (n : ℕ) (line : List ℕ) (ps : List (List ℕ)) (p : List ℕ) (qs : List (List ℕ)) → ps ≡ p ∷ qs
     → script_from over policy n (line ∷ ps) ≡ after_line (script_lines.parse_line policy line) n (script_from over policy (n + 1) ps)
 unfolding script_from
 script_more over policy n line ps p qs is =
     ap (λ (r : List (List ℕ)). script_from over policy n (line ∷ r)) is ∙ sym (ap (λ (r : List (List ℕ)). after_line (script_lines.parse_line policy line) n (script_from over policy (n + 1) r)) is)
+
+kept_last : (policy : PolicyNames) (over : Bool) (n : ℕ) (last : List ℕ) → kept_by policy over n (last ∷ []) ≡ kept_script [] (last_piece over n last)
+unfolding upgrade_from
+kept_last policy over n last = refl
+
+kept_more : (over : Bool) (policy : PolicyNames) (n : ℕ) (line : List ℕ) (ps : List (List ℕ)) (p : List ℕ) (qs : List (List ℕ)) → ps ≡ p ∷ qs
+    → upgrade_from over policy n (line ∷ ps) ≡ after_kept (fault_in (script_lines.parse_line policy line)) n line (upgrade_from over policy (n + 1) ps)
+unfolding upgrade_from
+kept_more over policy n line ps p qs is =
+    ap (λ (r : List (List ℕ)). upgrade_from over policy n (line ∷ r)) is
+    ∙ sym (ap (λ (r : List (List ℕ)). after_kept (fault_in (script_lines.parse_line policy line)) n line (upgrade_from over policy (n + 1) r)) is)
 
 -- a line that is too long is refused
 world_long : (e : Expecting) (line : List ℕ) → MAX_LINE < length line → parse_line e line ≡ Refuses fault.Syntax
@@ -93,46 +110,39 @@ script_long : (policy : PolicyNames) (line : List ℕ) → MAX_LINE < length lin
 unfolding script_lines.parse_line
 script_long policy line long = ap (λ b. cond b (Err error.TooLong) (cond (is_blank line) (Ok line_is.Blank) (script_lines.parse_words policy (words_of line)))) (lt-ltb MAX_LINE (length line) long)
 
+-- a script ends, read in both ways
+record Ends (policy : PolicyNames) (before : LinesState) (bytes : List ℕ) (ending : InputEnd) : Type 0 where
+  says : script_at policy before bytes ≡ script [] ending
+  keeps : upgrade_at policy before bytes ≡ kept_script [] ending
+
 -- ---- a step of a reader, which took these bytes
 module _ (before now : LinesState) (got : List ℕ) (number : now.number ≡ before.number + 1) where
   abbrev text : List ℕ
   text = before.held ++ got
-
-  -- what is left before the step, by the text and the bytes after it
-  input_text : (e : Expecting) (more : List ℕ) → input_at e before (got ++ more) ≡ input_by (nat_lt before.room (length (text ++ more))) (reading now.number e (pieces 10 (take before.room (text ++ more))))
-  unfolding input_at
-  input_text e more =
-      ap (λ (t : List ℕ). input_by (nat_lt before.room (length t)) (reading (before.number + 1) e (pieces 10 (take before.room t)))) (sym (append_assoc before.held got more))
-      ∙ ap (λ k. input_by (nat_lt before.room (length (text ++ more))) (reading k e (pieces 10 (take before.room (text ++ more))))) (sym number)
-
-  script_text : (policy : PolicyNames) (more : List ℕ) → script_at policy before (got ++ more) ≡ script_from (nat_lt before.room (length (text ++ more))) policy now.number (pieces 10 (take before.room (text ++ more)))
-  unfolding script_at
-  script_text policy more =
-      ap (λ (t : List ℕ). script_from (nat_lt before.room (length t)) policy (before.number + 1) (pieces 10 (take before.room t))) (sym (append_assoc before.held got more))
-      ∙ ap (λ k. script_from (nat_lt before.room (length (text ++ more))) policy k (pieces 10 (take before.room (text ++ more)))) (sym number)
 
   -- ---- a line
   module _ (gives : GivesLine text before.room now) where
     abbrev left : List ℕ → List (List ℕ)
     left more = pieces 10 (take now.room (now.held ++ more))
 
+    abbrev over : List ℕ → Bool
+    over more = nat_lt now.room (length (now.held ++ more))
+
     fewer : now.room < before.room
     fewer = omega (arith, gives.room_is)
 
-    world_line : (e : Expecting) (more : List ℕ)
-        → input_at e before (got ++ more) ≡ input_by (nat_lt now.room (length (now.held ++ more))) (after (parse_line e now.line) now.number (left more) (λ next. reading (now.number + 1) next (left more)))
+    abbrev by_parsed : Parsed → List ℕ → Begun
+    by_parsed parsed more = begun_by (over more) (after parsed now.number (left more) (λ next. read_lines (now.number + 1) next (left more)))
+
+    world_line : (e : Expecting) (more : List ℕ) → begun_at e before (got ++ more) ≡ by_parsed (parse_line e now.line) more
+    unfolding begun_at
     world_line e more =
         let first = pieces_first 10 (take now.room (now.held ++ more)) in
-        input_text e more
-        ∙ ap (λ b. input_by b (reading now.number e (pieces 10 (take before.room (text ++ more))))) (over_line text before.room now gives more)
-        ∙ ap (λ (ps : List (List ℕ)). input_by (nat_lt now.room (length (now.held ++ more))) (reading now.number e ps)) (pieces_line text before.room now gives more)
-        ∙ ap (input_by (nat_lt now.room (length (now.held ++ more)))) (reading_more now.number e now.line (left more) first.0 first.1 first.2)
-
-    abbrev by_parsed : Parsed → List ℕ → Input
-    by_parsed parsed more = input_by (nat_lt now.room (length (now.held ++ more))) (after parsed now.number (left more) (λ next. reading (now.number + 1) next (left more)))
+        left_line (world_by e) before now got number gives more
+        ∙ ap (begun_by (over more)) (reading_more now.number e now.line (left more) first.0 first.1 first.2)
 
     pub line_goes_on : (e : Expecting) (parsed : Parsed) → parsed ≡ parse_line e now.line → (next : Expecting) → parsed ≡ More next → GoesOn e before now got next
-    unfolding input_at
+    unfolding begun_at
     line_goes_on e parsed is next more = record {
       says = λ rest. world_line e rest ∙ ap (λ p. by_parsed p rest) (sym is ∙ more);
       more = gives.more;
@@ -140,7 +150,7 @@ module _ (before now : LinesState) (got : List ℕ) (number : now.number ≡ bef
     }
 
     pub line_accepts : (e : Expecting) (parsed : Parsed) → parsed ≡ parse_line e now.line → (w : WorldText) → parsed ≡ Begins w → Accepts e before now got w
-    unfolding script_at
+    unfolding script_left
     line_accepts e parsed is w begins = record {
       says = λ rest. world_line e rest ∙ ap (λ p. by_parsed p rest) (sym is ∙ begins);
       more = gives.more;
@@ -158,16 +168,24 @@ module _ (before now : LinesState) (got : List ℕ) (number : now.number ≡ bef
     unfolding script_at
     script_line policy parsed is more =
         let first = pieces_first 10 (take now.room (now.held ++ more)) in
-        let over = nat_lt now.room (length (now.held ++ more)) in
-        script_text policy more
-        ∙ ap (λ b. script_from b policy now.number (pieces 10 (take before.room (text ++ more)))) (over_line text before.room now gives more)
-        ∙ ap (script_from over policy now.number) (pieces_line text before.room now gives more)
-        ∙ script_more over policy now.number now.line (left more) first.0 first.1 first.2
-        ∙ ap (λ (r : Result Line LineError). after_line r now.number (script_from over policy (now.number + 1) (left more))) is
+        left_line (script_by policy) before now got number gives more
+        ∙ script_more (over more) policy now.number now.line (left more) first.0 first.1 first.2
+        ∙ ap (λ (r : Result Line LineError). after_line r now.number (script_from (over more) policy (now.number + 1) (left more))) is
+
+    kept_line : (policy : PolicyNames) (parsed : Result Line LineError) → script_lines.parse_line policy now.line ≡ parsed → (more : List ℕ)
+        → upgrade_at policy before (got ++ more) ≡ after_kept (fault_in parsed) now.number now.line (upgrade_at policy now more)
+    unfolding upgrade_at
+    kept_line policy parsed is more =
+        let first = pieces_first 10 (take now.room (now.held ++ more)) in
+        left_line (kept_by policy) before now got number gives more
+        ∙ kept_more (over more) policy now.number now.line (left more) first.0 first.1 first.2
+        ∙ ap (λ (r : Result Line LineError). after_kept (fault_in r) now.number now.line (upgrade_from (over more) policy (now.number + 1) (left more))) is
 
     pub line_begins : (policy : PolicyNames) (l : Line) → script_lines.parse_line policy now.line ≡ Ok l → MayBePlayed (top_of policy) l → BeginsWith policy before now got l
     line_begins policy l is calls = record {
       says = λ rest. script_line policy (Ok l) is rest;
+      keeps = λ rest. kept_line policy (Ok l) is rest;
+      number = omega (arith, number);
       calls = calls;
       more = gives.more;
       fewer = omega (arith, gives.room_is, few_calls policy now.line l is calls);
@@ -178,7 +196,7 @@ module _ (before now : LinesState) (got : List ℕ) (number : now.number ≡ bef
       by_word why is ends = subst (λ (w : LineFault). EndsScript policy before left got (Refused now.number part.Script w)) (sym is) ends
 
       refused_line : (e : LineError) → script_lines.parse_line policy now.line ≡ Err e → EndsScript policy before left got (Refused now.number part.Script (fault_of e))
-      refused_line e is = record { says = script_line policy (Err e) is (left_of left); to_the_end = λ h. absurd (cc) }
+      refused_line e is = record { says = script_line policy (Err e) is (left_of left); keeps = kept_line policy (Err e) is (left_of left); to_the_end = λ h. absurd (cc) }
 
       pub line_refused_by : (e : LineError) (why : LineFault) → IsFaultOf e why → IsCause (script_lines.parse_line policy now.line) e → EndsScript policy before left got (Refused now.number part.Script why)
       line_refused_by (error.NoMemory m) why word is = absurd word
@@ -191,37 +209,29 @@ module _ (before now : LinesState) (got : List ℕ) (number : now.number ≡ bef
 
   -- ---- no line
 
-  -- nothing comes after the text
-  no_more : (left : Option (List ℕ)) → IsAtEnd left → text ++ left_of left ≡ text
-  no_more left end = ap (λ (m : List ℕ). text ++ m) (nothing_left left end) ∙ append-nil text
-
-  -- the pieces of a text within the limit that holds a part of a line
-  whole_part : HoldsPart text before.room → length text ≤ before.room → pieces 10 (take before.room text) ≡ text ∷ []
-  whole_part holds le = pieces_part text before.room holds ∙ ap (λ (t : List ℕ). t ∷ []) (take_all before.room text le)
+  -- the last piece of a script is left
+  last_left : (policy : PolicyNames) (bytes : List ℕ) (over : Bool) (last : List ℕ) → read_left (script_by policy) before bytes ≡ script_from over policy now.number (last ∷ [])
+      → read_left (kept_by policy) before bytes ≡ upgrade_from over policy now.number (last ∷ []) → (ending : InputEnd) → last_piece over now.number last ≡ ending → Ends policy before bytes ending
+  unfolding script_at upgrade_at
+  last_left policy bytes over last is kept_is ending ends = record {
+    says = is ∙ script_last policy over now.number last ∙ ap (script []) ends;
+    keeps = kept_is ∙ kept_last policy over now.number last ∙ ap (kept_script []) ends;
+  }
 
   module _ (holds : HoldsPart text before.room) (le : length text ≤ before.room) (left : Option (List ℕ)) (end : IsAtEnd left) where
     -- the source ended within the limit
-    world_ended : (e : Expecting) → input_at e before (got ++ left_of left) ≡ no_world (Refused now.number part.World fault.Syntax)
-    world_ended e =
-        input_text e (left_of left)
-        ∙ ap (λ (t : List ℕ). input_by (nat_lt before.room (length t)) (reading now.number e (pieces 10 (take before.room t)))) (no_more left end)
-        ∙ ap (λ b. input_by b (reading now.number e (pieces 10 (take before.room text)))) (le-ltb before.room (length text) le)
-        ∙ reading_last now.number e text (pieces 10 (take before.room text)) (whole_part holds le) false
-
-    script_ended : (policy : PolicyNames) → script_at policy before (got ++ left_of left) ≡ script [] (last_piece false now.number text)
-    script_ended policy =
-        script_text policy (left_of left)
-        ∙ ap (λ (t : List ℕ). script_from (nat_lt before.room (length t)) policy now.number (pieces 10 (take before.room t))) (no_more left end)
-        ∙ ap (λ b. script_from b policy now.number (pieces 10 (take before.room text))) (le-ltb before.room (length text) le)
-        ∙ script_last false policy now.number text (pieces 10 (take before.room text)) (whole_part holds le)
-
     pub world_unended : (e : Expecting) → EndsWorld e before left got (Refused now.number part.World fault.Syntax)
-    world_unended e = record { says = world_ended e; to_the_end = λ h. absurd (cc) }
+    unfolding begun_at
+    world_unended e = record { says = left_part (world_by e) before now got number holds le left end ∙ world_last e false now.number text; to_the_end = λ h. absurd (cc) }
+
+    script_ended : (policy : PolicyNames) (ending : InputEnd) → last_piece false now.number text ≡ ending → Ends policy before (got ++ left_of left) ending
+    script_ended policy = last_left policy (got ++ left_of left) false text (left_part (script_by policy) before now got number holds le left end) (left_part (kept_by policy) before now got number holds le left end)
 
     pub script_unended : (policy : PolicyNames) → 0 < length text → EndsScript policy before left got (Refused now.number part.Script fault.Syntax)
     script_unended policy some =
         let short : length text ≤ MAX_LINE = subst (λ (t : List ℕ). length t ≤ MAX_LINE) (take_all before.room text le) holds.short in
-        record { says = script_ended policy ∙ ap (script []) (unended_piece text some short); to_the_end = λ h. absurd (cc) }
+        let ends = script_ended policy _ (unended_piece text some short) in
+        record { says = ends.says; keeps = ends.keeps; to_the_end = λ h. absurd (cc) }
       where
         unended_piece : (t : List ℕ) → 0 < length t → length t ≤ MAX_LINE → last_piece false now.number t ≡ Refused now.number part.Script fault.Syntax
         unended_piece [] some short = absurd (omega (arith, some))
@@ -239,82 +249,77 @@ module _ (before now : LinesState) (got : List ℕ) (number : now.number ≡ bef
     world_ends e = world_unended (empty_part none) le left end e
 
     pub script_ends : (policy : PolicyNames) → EndsScript policy before left got Whole
-    script_ends policy = record { says = script_ended (empty_part none) le left end policy ∙ ap (λ (t : List ℕ). script [] (last_piece false now.number t)) none; to_the_end = λ h. end }
+    script_ends policy =
+        let ends = script_ended (empty_part none) le left end policy Whole (ap (λ (t : List ℕ). last_piece false now.number t) none) in
+        record { says = ends.says; keeps = ends.keeps; to_the_end = λ h. end }
 
   module _ (holds : HoldsPart text before.room) (past : before.room < length text) (left : Option (List ℕ)) where
-    cut : (n : ℕ) (last : List ℕ) → length last ≤ MAX_LINE → nat_lt MAX_LINE (length last) ≡ false
-    cut n last short = le-ltb MAX_LINE (length last) short
+    cut : (why : InputEnd) (last : List ℕ) → length last ≤ MAX_LINE → cond (nat_lt MAX_LINE (length last)) why TooMuch ≡ TooMuch
+    cut why last short = ap (λ b. cond b why TooMuch) (le-ltb MAX_LINE (length last) short)
 
     pub world_too_much : (e : Expecting) → EndsWorld e before left got TooMuch
+    unfolding begun_at
     world_too_much e = record {
-      says = input_text e (left_of left)
-          ∙ ap (λ b. input_by b (reading now.number e (pieces 10 (take before.room (text ++ left_of left))))) (over_past text before.room past (left_of left))
-          ∙ reading_last now.number e (take before.room text) (pieces 10 (take before.room (text ++ left_of left))) (pieces_past text before.room holds past (left_of left)) true
-          ∙ ap (λ b. no_world (cond b (Refused now.number part.World fault.Syntax) TooMuch)) (cut now.number (take before.room text) holds.short);
+      says = left_past (world_by e) before now got number holds past left ∙ world_last e true now.number (take before.room text) ∙ ap NoWorld (cut _ (take before.room text) holds.short);
       to_the_end = λ h. absurd (cc);
     }
 
     pub script_too_much : (policy : PolicyNames) → EndsScript policy before left got TooMuch
-    script_too_much policy = record {
-      says = script_text policy (left_of left)
-          ∙ ap (λ b. script_from b policy now.number (pieces 10 (take before.room (text ++ left_of left)))) (over_past text before.room past (left_of left))
-          ∙ script_last true policy now.number (take before.room text) (pieces 10 (take before.room (text ++ left_of left))) (pieces_past text before.room holds past (left_of left))
-          ∙ ap (λ b. script [] (cond b (Refused now.number part.Script fault.TooLong) TooMuch)) (cut now.number (take before.room text) holds.short);
-      to_the_end = λ h. absurd (cc);
-    }
+    script_too_much policy =
+        let ends = last_left policy (got ++ left_of left) true (take before.room text) (left_past (script_by policy) before now got number holds past left) (left_past (kept_by policy) before now got number holds past left)
+        TooMuch (cut _ (take before.room text) holds.short) in
+        record { says = ends.says; keeps = ends.keeps; to_the_end = λ h. absurd (cc) }
 
   -- a line that is too long is refused, wherever it ends
   module _ (long : HoldsLongLine text before.room) (left : Option (List ℕ)) where
-    world_by_pieces : (over : Bool) (e : Expecting) (line : List ℕ) (ps : List (List ℕ)) → MAX_LINE < length line → input_by over (reading now.number e (line ∷ ps)) ≡ no_world (Refused now.number part.World fault.Syntax)
-    world_by_pieces false e line [] long = reading_last now.number e line (line ∷ []) refl false
-    world_by_pieces true e line [] long = reading_last now.number e line (line ∷ []) refl true ∙ ap (λ b. no_world (cond b (Refused now.number part.World fault.Syntax) TooMuch)) (lt-ltb MAX_LINE (length line) long)
-    world_by_pieces over e line (p ∷ ps) long = ap (input_by over) (reading_more now.number e line (p ∷ ps) p ps refl)
-        ∙ ap (λ (r : Parsed). input_by over (after r now.number (p ∷ ps) (λ next. reading (now.number + 1) next (p ∷ ps)))) (world_long e line long)
+    world_by_pieces : (over : Bool) (e : Expecting) (line : List ℕ) (ps : List (List ℕ)) → MAX_LINE < length line → world_by e over now.number (line ∷ ps) ≡ NoWorld (Refused now.number part.World fault.Syntax)
+    world_by_pieces false e line [] long = world_last e false now.number line
+    world_by_pieces true e line [] long = world_last e true now.number line ∙ ap (λ b. NoWorld (cond b (Refused now.number part.World fault.Syntax) TooMuch)) (lt-ltb MAX_LINE (length line) long)
+    world_by_pieces over e line (p ∷ ps) long = ap (begun_by over) (reading_more now.number e line (p ∷ ps) p ps refl)
+        ∙ ap (λ (r : Parsed). begun_by over (after r now.number (p ∷ ps) (λ next. read_lines (now.number + 1) next (p ∷ ps)))) (world_long e line long)
+
+    -- the last piece is too long
+    long_piece : (over : Bool) (line : List ℕ) → MAX_LINE < length line → last_piece over now.number line ≡ Refused now.number part.Script fault.TooLong
+    long_piece over [] long = absurd (omega (arith, long))
+    long_piece false (x ∷ line) long = ap (λ b. Refused now.number part.Script (cond b fault.TooLong fault.Syntax)) (lt-ltb MAX_LINE (length (x ∷ line)) long)
+    long_piece true (x ∷ line) long = ap (λ b. cond b (Refused now.number part.Script fault.TooLong) TooMuch) (lt-ltb MAX_LINE (length (x ∷ line)) long)
 
     script_by_pieces : (over : Bool) (policy : PolicyNames) (line : List ℕ) (ps : List (List ℕ)) → MAX_LINE < length line → script_from over policy now.number (line ∷ ps) ≡ script [] (Refused now.number part.Script fault.TooLong)
-    script_by_pieces over policy [] ps long = absurd (omega (arith, long))
-    script_by_pieces false policy (x ∷ line) [] long = script_last false policy now.number (x ∷ line) ((x ∷ line) ∷ []) refl
-        ∙ ap (λ b. script [] (Refused now.number part.Script (cond b fault.TooLong fault.Syntax))) (lt-ltb MAX_LINE (length (x ∷ line)) long)
-    script_by_pieces true policy (x ∷ line) [] long = script_last true policy now.number (x ∷ line) ((x ∷ line) ∷ []) refl
-        ∙ ap (λ b. script [] (cond b (Refused now.number part.Script fault.TooLong) TooMuch)) (lt-ltb MAX_LINE (length (x ∷ line)) long)
-    script_by_pieces over policy (x ∷ line) (p ∷ ps) long = script_more over policy now.number (x ∷ line) (p ∷ ps) p ps refl
-        ∙ ap (λ (r : Result Line LineError). after_line r now.number (script_from over policy (now.number + 1) (p ∷ ps))) (script_long policy (x ∷ line) long)
+    script_by_pieces over policy line [] long = script_last policy over now.number line ∙ ap (script []) (long_piece over line long)
+    script_by_pieces over policy line (p ∷ ps) long = script_more over policy now.number line (p ∷ ps) p ps refl
+        ∙ ap (λ (r : Result Line LineError). after_line r now.number (script_from over policy (now.number + 1) (p ∷ ps))) (script_long policy line long)
+
+    kept_by_pieces : (over : Bool) (policy : PolicyNames) (line : List ℕ) (ps : List (List ℕ)) → MAX_LINE < length line → upgrade_from over policy now.number (line ∷ ps) ≡ kept_script [] (Refused now.number part.Script fault.TooLong)
+    kept_by_pieces over policy line [] long = kept_last policy over now.number line ∙ ap (kept_script []) (long_piece over line long)
+    kept_by_pieces over policy line (p ∷ ps) long = kept_more over policy now.number line (p ∷ ps) p ps refl
+        ∙ ap (λ (r : Result Line LineError). after_kept (fault_in r) now.number line (upgrade_from over policy (now.number + 1) (p ∷ ps))) (script_long policy line long)
 
     pub world_long_line : (e : Expecting) → EndsWorld e before left got (Refused now.number part.World fault.Syntax)
+    unfolding begun_at
     world_long_line e =
-        let first = pieces_long text before.room long (left_of left) in
-        let over = nat_lt before.room (length (text ++ left_of left)) in
-        record {
-          says = input_text e (left_of left) ∙ ap (λ (ps : List (List ℕ)). input_by over (reading now.number e ps)) first.2 ∙ world_by_pieces over e first.0 first.1 first.3;
-          to_the_end = λ h. absurd (cc);
-        }
+        let first = left_long (world_by e) before now got number long left in
+        record { says = first.4 ∙ world_by_pieces first.0 e first.1 first.2 first.3; to_the_end = λ h. absurd (cc) }
 
     pub script_long_line : (policy : PolicyNames) → EndsScript policy before left got (Refused now.number part.Script fault.TooLong)
+    unfolding script_at upgrade_at
     script_long_line policy =
-        let first = pieces_long text before.room long (left_of left) in
-        let over = nat_lt before.room (length (text ++ left_of left)) in
+        let first = left_long (script_by policy) before now got number long left in
+        let old = left_long (kept_by policy) before now got number long left in
         record {
-          says = script_text policy (left_of left) ∙ ap (script_from over policy now.number) first.2 ∙ script_by_pieces over policy first.0 first.1 first.3;
+          says = first.4 ∙ script_by_pieces first.0 policy first.1 first.2 first.3;
+          keeps = old.4 ∙ kept_by_pieces old.0 policy old.1 old.2 old.3;
           to_the_end = λ h. absurd (cc);
         }
 
   -- ---- a read that failed
   module _ (holds : HoldsPart text before.room) where
-    pub failed_world : (e : Expecting) → (input_at e before got).accepted ≡ None
-    failed_world e =
-        let over = nat_lt before.room (length (text ++ [])) in
-        ap (λ (t : List ℕ). (input_at e before t).accepted) (sym (append-nil got))
-        ∙ ap (λ (i : Input). i.accepted) (input_text e []
-        ∙ ap (λ (t : List ℕ). input_by over (reading now.number e (pieces 10 (take before.room t)))) (append-nil text)
-        ∙ reading_last now.number e (take before.room text) (pieces 10 (take before.room text)) (pieces_part text before.room holds) over)
+    pub failed_world : (e : Expecting) → (input_from (begun_at e before got)).accepted ≡ None
+    unfolding begun_at
+    failed_world e = ap (λ (b : Begun). (input_from b).accepted) (left_failed (world_by e) before now got number holds ∙ world_last e (nat_lt before.room (length text)) now.number (take before.room text))
 
     pub failed_script : (policy : PolicyNames) → (script_at policy before got).items ≡ []
-    failed_script policy =
-        let over = nat_lt before.room (length (text ++ [])) in
-        ap (λ (t : List ℕ). (script_at policy before t).items) (sym (append-nil got))
-        ∙ ap (λ (m : Script). m.items) (script_text policy []
-        ∙ ap (λ (t : List ℕ). script_from over policy now.number (pieces 10 (take before.room t))) (append-nil text)
-        ∙ script_last over policy now.number (take before.room text) (pieces 10 (take before.room text)) (pieces_part text before.room holds))
+    unfolding script_at
+    failed_script policy = ap (λ (m : Script). m.items) (left_failed (script_by policy) before now got number holds ∙ script_last policy (nat_lt before.room (length text)) now.number (take before.room text))
 
 -- ---- what a step leaves
 module _ (before now : LinesState) (left left' : Option (List ℕ)) where

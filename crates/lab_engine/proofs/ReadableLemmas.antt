@@ -9,7 +9,7 @@ use Rattle.aud_record.specs.Parsed.{parse_rec}
 use Rattle.aud_record.specs.Written.{rec_text}
 use Rattle.kern_model.specs.declared.records.Rec.{Rec}
 use Rattle.kern_model.specs.declared.world.ScriptItem.{ScriptItem}
-use Rattle.kern_model.specs.Run.{played, run, state_after_run}
+use Rattle.kern_model.specs.Run.{item_record, run, state_after_run}
 use Rattle.kern_model.specs.State.{State}
 use Rattle.kern_model.specs.Step.{step}
 use Rattle.lab_text.specs.Policy.{PolicyNames}
@@ -47,7 +47,7 @@ module _ (policy : PolicyNames) where
       → AreReadable policy (count + 1) (step s i.who i.call).recs → CallsReadable policy (count + 1) next is → CallsReadable policy count s items
   readable_call count s next i is items same state own rest =
       subst (CallsReadable policy count s) (sym same)
-      (all-append (IsReadable policy) (map (λ (r : Rec). (count + 1, r)) (played s i).recs) _ (with_numbers policy (count + 1) (played s i).recs own)
+      (all-append (IsReadable policy) (map (λ (r : Rec). (count + 1, r)) (item_record s i).recs) _ (with_numbers policy (count + 1) (item_record s i).recs own)
       (subst (λ (x : State). CallsReadable policy (count + 1) x is) state rest))
 
   -- no call
@@ -59,7 +59,7 @@ module _ (policy : PolicyNames) where
   readable_items count s [] more own rest = let none : count + 0 ≡ count = omega arith in subst (λ k. CallsReadable policy k s more) none rest
   readable_items count s (i ∷ is) more own rest =
       let next = (step s i.who i.call).state in
-      let recs = map (λ (r : Rec). (count + 1, r)) (played s i).recs in
+      let recs = map (λ (r : Rec). (count + 1, r)) (item_record s i).recs in
       let later : count + length (i ∷ is) ≡ (count + 1) + length is = omega arith in
       let parts = all_parts (IsReadable policy) recs (numbered_from ((count + 1) + 1) (run next is)) own in
       all-append (IsReadable policy) recs _ parts.0 (readable_items (count + 1) next is more parts.1 (subst (λ k. CallsReadable policy k (state_after_run next is) more) later rest))

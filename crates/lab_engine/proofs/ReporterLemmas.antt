@@ -3,7 +3,7 @@ use Rattle.std.proofs.Common.{◌≡◌, ℕ, ◌+◌, List, ◌∷◌, ◌++◌
 use Rattle.std.specs.Prelude.{Result}
 use Rattle.io_ends.specs.LinesState.{LinesState}
 use Rattle.kern_model.specs.declared.world.ScriptItem.{ScriptItem}
-use Rattle.kern_model.specs.Run.{played}
+use Rattle.kern_model.specs.Run.{item_record}
 use Rattle.kern_model.specs.State.{State}
 use Rattle.kern_model.specs.Step.{step}
 use Rattle.lab_text.specs.Policy.{PolicyNames}
@@ -16,10 +16,10 @@ use Rattle.lab_engine.proofs.ReportLemmas.{items_left}
 
 module _ (policy now : PolicyNames) (same : now ≡ policy) where
   -- a call, and those after it
-  pub left_now : (r r' : Report) (count : ℕ) (s next : State) (i : ScriptItem) (is items : List ScriptItem) → items ≡ i ∷ is → r' ≡ report_after_call r (played s i) → next ≡ (step s i.who i.call).state
-      → items_reported r policy count s items ≡ call_sends r now (count + 1) (played s i) ++ items_reported r' policy (count + 1) next is
+  pub left_now : (r r' : Report) (count : ℕ) (s next : State) (i : ScriptItem) (is items : List ScriptItem) → items ≡ i ∷ is → r' ≡ report_after_call r (item_record s i) → next ≡ (step s i.who i.call).state
+      → items_reported r policy count s items ≡ call_sends r now (count + 1) (item_record s i) ++ items_reported r' policy (count + 1) next is
   left_now r r' count s next i is items e kept state =
-      items_left policy r r' count s next i is items e kept state ∙ ap (λ (p : PolicyNames). call_sends r p (count + 1) (played s i) ++ items_reported r' policy (count + 1) next is) (sym same)
+      items_left policy r r' count s next i is items e kept state ∙ ap (λ (p : PolicyNames). call_sends r p (count + 1) (item_record s i) ++ items_reported r' policy (count + 1) next is) (sym same)
 
   module _ (r0 r : Report) (s0 s : State) (lines0 lines : LinesState) (left0 left : Option (List ℕ)) (before after : Ends) where
     -- what is kept at the start is given too

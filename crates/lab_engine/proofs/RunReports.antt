@@ -3,14 +3,14 @@ use Rattle.std.proofs.Common.{◌≡◌, ℕ, ◌+◌, Bool, true, false, ◌||�
 use Rattle.std.proofs.lemmas.List.{append-nil}
 use Rattle.std.proofs.lemmas.List.Sums.{sum_by-cons}
 use Rattle.std.specs.List.{flat_map, sum_by}
-use Rattle.kern_model.specs.Isolation.{crossing, low, up_to}
+use Rattle.kern_model.specs.Isolation.{any_crosses, low, up_to}
 use Rattle.kern_model.specs.Run.{CallRecord}
 use Rattle.lab_lattice.specs.Label.{Label}
 use Rattle.lab_text.specs.Policy.{PolicyNames}
 use Rattle.lab_engine.specs.declared.reporting.Report.TheVariants.{Below, Crossed, Counted}
 use Rattle.lab_engine.specs.declared.reporting.Tally.{Tally}
 use Rattle.lab_engine.specs.Order.{Sent, to_out}
-use Rattle.lab_engine.specs.Report.{call_sends, crossed_line, exercises, is_denied, is_done, is_refused, report_after, reported, tally_of}
+use Rattle.lab_engine.specs.Report.{call_sends, crossed_line, exercises, is_denied, is_done, is_refused, report_after, sends_from, tally_of}
 use Rattle.lab_engine.specs.Viewing.{low_calls, some_crosses}
 use Rattle.lab_engine.specs.Texts.{reply_text}
 use Rattle.lab_engine.proofs.Sending.{to_out-append}
@@ -18,8 +18,8 @@ use Rattle.lab_engine.proofs.Sending.{to_out-append}
 -- ---- after a crossing
 
 module _ (policy : PolicyNames) where
-  pub crossed_reported : (n : ℕ) (calls : List CallRecord) → reported Crossed policy n calls ≡ []
-  unfolding reported call_sends
+  pub crossed_reported : (n : ℕ) (calls : List CallRecord) → sends_from Crossed policy n calls ≡ []
+  unfolding sends_from call_sends
   crossed_reported n [] = refl
   crossed_reported n (p ∷ ps) = crossed_reported (n + 1) ps
 
@@ -33,7 +33,7 @@ crossed_after (p ∷ ps) = crossed_after ps
 -- where no call crosses, all calls are before the first that does
 pub up_to_all : (l : Label) (calls : List CallRecord) → some_crosses l calls ≡ false → up_to l calls ≡ calls
 up_to_all l [] none = refl
-up_to_all l (p ∷ ps) none = by_first (up_to_all l ps) (crossing l p.recs) none
+up_to_all l (p ∷ ps) none = by_first (up_to_all l ps) (any_crosses l p.recs) none
   where
     by_first : (some_crosses l ps ≡ false → up_to l ps ≡ ps) → (b : Bool) → (b || some_crosses l ps) ≡ false → cond b [] (p ∷ up_to l ps) ≡ p ∷ ps
     by_first again true none = absurd (cc)
@@ -44,11 +44,11 @@ module _ (policy : PolicyNames) (l : Label) where
   abbrev pub below_text : List CallRecord → List ℕ
   below_text calls = flat_map (reply_text policy) (low_calls l (up_to l calls)) ++ cond (some_crosses l calls) crossed_line []
 
-  module _ (k n : ℕ) (p : CallRecord) (ps : List CallRecord) (again : (j m : ℕ) → reported (Below l j) policy m ps ≡ to_out (below_text ps)) where
+  module _ (k n : ℕ) (p : CallRecord) (ps : List CallRecord) (again : (j m : ℕ) → sends_from (Below l j) policy m ps ≡ to_out (below_text ps)) where
     abbrev text : List ℕ
     text = reply_text policy p
 
-    by_low : (c : Bool) → cond c (to_out text) [] ++ reported (cond c (Below l (k + 1)) (Below l k)) policy (n + 1) ps
+    by_low : (c : Bool) → cond c (to_out text) [] ++ sends_from (cond c (Below l (k + 1)) (Below l k)) policy (n + 1) ps
         ≡ to_out (flat_map (reply_text policy) (cond c (p ∷ low_calls l (up_to l ps)) (low_calls l (up_to l ps))) ++ cond (some_crosses l ps) crossed_line [])
     by_low true =
         ap (λ (o : List Sent). to_out text ++ o) (again (k + 1) (n + 1))
@@ -56,15 +56,15 @@ module _ (policy : PolicyNames) (l : Label) where
         ∙ ap to_out (sym (append_assoc text (flat_map (reply_text policy) (low_calls l (up_to l ps))) (cond (some_crosses l ps) crossed_line [])))
     by_low false = again k (n + 1)
 
-    by_crossing : (b : Bool) → cond b (to_out crossed_line) (cond (low l p.who.label) (to_out text) []) ++ reported (cond b Crossed (cond (low l p.who.label) (Below l (k + 1)) (Below l k))) policy (n + 1) ps
+    by_crossing : (b : Bool) → cond b (to_out crossed_line) (cond (low l p.who.label) (to_out text) []) ++ sends_from (cond b Crossed (cond (low l p.who.label) (Below l (k + 1)) (Below l k))) policy (n + 1) ps
         ≡ to_out (flat_map (reply_text policy) (low_calls l (cond b [] (p ∷ up_to l ps))) ++ cond (b || some_crosses l ps) crossed_line [])
     by_crossing true = ap (λ (o : List Sent). to_out crossed_line ++ o) (crossed_reported policy (n + 1) ps) ∙ append-nil (to_out crossed_line)
     by_crossing false = by_low (low l p.who.label)
 
-  pub below_reported : (k n : ℕ) (calls : List CallRecord) → reported (Below l k) policy n calls ≡ to_out (below_text calls)
-  unfolding reported call_sends to_out
+  pub below_reported : (k n : ℕ) (calls : List CallRecord) → sends_from (Below l k) policy n calls ≡ to_out (below_text calls)
+  unfolding sends_from call_sends to_out
   below_reported k n [] = refl
-  below_reported k n (p ∷ ps) = by_crossing k n p ps (λ j m. below_reported j m ps) (crossing l p.recs)
+  below_reported k n (p ∷ ps) = by_crossing k n p ps (λ j m. below_reported j m ps) (any_crosses l p.recs)
 
 module _ (l : Label) (k : ℕ) (p : CallRecord) (ps : List CallRecord) (again : (j : ℕ) → report_after (Below l j) ps ≡ cond (some_crosses l ps) Crossed (Below l (j + length (low_calls l ps)))) where
   after_low : (c : Bool) → report_after (cond c (Below l (k + 1)) (Below l k)) ps ≡ cond (some_crosses l ps) Crossed (Below l (k + length (cond c (p ∷ low_calls l ps) (low_calls l ps))))
@@ -81,12 +81,12 @@ module _ (l : Label) (k : ℕ) (p : CallRecord) (ps : List CallRecord) (again : 
 pub below_after : (l : Label) (k : ℕ) (calls : List CallRecord) → report_after (Below l k) calls ≡ cond (some_crosses l calls) Crossed (Below l (k + length (low_calls l calls)))
 unfolding report_after
 below_after l k [] = let none : k ≡ k + 0 = omega arith in ap (λ n. Below l n) none
-below_after l k (p ∷ ps) = after_crossing l k p ps (λ j. below_after l j ps) (crossing l p.recs)
+below_after l k (p ∷ ps) = after_crossing l k p ps (λ j. below_after l j ps) (any_crosses l p.recs)
 
 -- ---- a tally
 
-pub counted_reported : (policy : PolicyNames) (t : Tally) (n : ℕ) (calls : List CallRecord) → reported (Counted t) policy n calls ≡ []
-unfolding reported call_sends
+pub counted_reported : (policy : PolicyNames) (t : Tally) (n : ℕ) (calls : List CallRecord) → sends_from (Counted t) policy n calls ≡ []
+unfolding sends_from call_sends
 counted_reported policy t n [] = refl
 counted_reported policy t n (p ∷ ps) = counted_reported policy (tally_of t (p ∷ [])) (n + 1) ps
 

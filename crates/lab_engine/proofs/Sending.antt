@@ -6,7 +6,7 @@ use Rattle.std.specs.Prelude.{Result, IsErrAnd, Ok, Err}
 use Rattle.std.specs.List.{flat_map}
 use Rattle.std.specs.Io.KnownBytes.{Appends}
 use Rattle.std.proofs.KnownBytes.{Appends-nil, Appends-trans}
-use Rattle.io_ends.specs.Faults.{AppendsPart, counted}
+use Rattle.io_ends.specs.Faults.{AppendsPart, next_count}
 use Rattle.io_ends.specs.Ends.{SinkView}
 use Rattle.lab_engine.specs.declared.ending.Fault.{Fault}
 use Rattle.lab_engine.specs.declared.ending.Fault.TheVariants.{Write, Trail, NoMemory}
@@ -159,7 +159,7 @@ module _ (h h' : SinkView) (bs : List ℕ) where
   }
 
   -- a part of the piece went out
-  pub note_stops : AppendsPart h.held h'.held bs → h'.faults ≡ counted h.faults → (source : ℕ) (out : SinkView) → StopsBy Trail (to_trail bs) (ends source out h) (ends source out h')
+  pub note_stops : AppendsPart h.held h'.held bs → h'.faults ≡ next_count h.faults → (source : ℕ) (out : SinkView) → StopsBy Trail (to_trail bs) (ends source out h) (ends source out h')
   unfolding counted_by
   note_stops p once source out = record {
     sends = record {
@@ -174,7 +174,7 @@ module _ (h h' : SinkView) (bs : List ℕ) where
     one_fault = ap (counts source out.faults) once;
   }
 
-  pub answer_stops : AppendsPart h.held h'.held bs → h'.faults ≡ counted h.faults → (source : ℕ) (trail : SinkView) → StopsBy Write (to_out bs) (ends source h trail) (ends source h' trail)
+  pub answer_stops : AppendsPart h.held h'.held bs → h'.faults ≡ next_count h.faults → (source : ℕ) (trail : SinkView) → StopsBy Write (to_out bs) (ends source h trail) (ends source h' trail)
   unfolding counted_by
   answer_stops p once source trail = record {
     sends = record {

@@ -12,10 +12,10 @@ use Rattle.kern_model.specs.declared.numbers.Pid.{Pid}
 use Rattle.kern_model.specs.declared.world.ScriptItem.{ScriptItem}
 use Rattle.kern_model.specs.Arguments.{is_script}
 use Rattle.kern_model.specs.Boot.{boot}
-use Rattle.kern_model.specs.Isolation.{Answered, Kept, answered, answers, all_answers, crossing, low, part, part_script, up_to}
+use Rattle.kern_model.specs.Isolation.{Answered, Kept, answer_of_call, answers, all_answers, any_crosses, low, part, part_script, up_to}
 use Rattle.kern_model.specs.Keys.{pid_cmp}
 use Rattle.kern_model.specs.Maps.{select}
-use Rattle.kern_model.specs.Run.{CallRecord, played, run, state_after_run}
+use Rattle.kern_model.specs.Run.{CallRecord, item_record, run, state_after_run}
 use Rattle.kern_model.specs.State.{Process, State}
 use Rattle.kern_model.specs.Step.{step}
 use Rattle.kern_model.specs.World.{IsWorld}
@@ -41,7 +41,7 @@ module _ (l : Label) where
   unfolding reply_text
   replies_by_answers policy [] = refl
   replies_by_answers policy (p ∷ ps) =
-      elim (low l p.who.label) as (λ b. flat_map (reply_text policy) (cond b (p ∷ low_calls l ps) (low_calls l ps)) ≡ flat_map (shown policy) (cond b (answered p ∷ answers l ps) (answers l ps))) [
+      elim (low l p.who.label) as (λ b. flat_map (reply_text policy) (cond b (p ∷ low_calls l ps) (low_calls l ps)) ≡ flat_map (shown policy) (cond b (answer_of_call p ∷ answers l ps) (answers l ps))) [
         | true ↦ ap (λ (t : List ℕ). reply_line policy p.who p.head p.reply ++ t) (replies_by_answers policy ps)
         | false ↦ replies_by_answers policy ps
       ]
@@ -50,7 +50,7 @@ module _ (l : Label) where
   count_by_answers : (ps : List CallRecord) → length (low_calls l ps) ≡ length (answers l ps)
   count_by_answers [] = refl
   count_by_answers (p ∷ ps) =
-      elim (low l p.who.label) as (λ b. length (cond b (p ∷ low_calls l ps) (low_calls l ps)) ≡ length (cond b (answered p ∷ answers l ps) (answers l ps))) [
+      elim (low l p.who.label) as (λ b. length (cond b (p ∷ low_calls l ps) (low_calls l ps)) ≡ length (cond b (answer_of_call p ∷ answers l ps) (answers l ps))) [
         | true ↦ ap (λ n. suc n) (count_by_answers ps)
         | false ↦ count_by_answers ps
       ]
@@ -63,7 +63,7 @@ module _ (l : Label) where
         | true ↦ λ is_low.
             let next : State = (step s i.who i.call).state in
             let rest : List Answered = answers l (run next (part_script l is)) in
-            ap (λ t. cond t (answered (played s i) ∷ rest) rest) is_low ∙ ap (λ (xs : List Answered). answered (played s i) ∷ xs) (answers_to_low is next)
+            ap (λ t. cond t (answer_of_call (item_record s i) ∷ rest) rest) is_low ∙ ap (λ (xs : List Answered). answer_of_call (item_record s i) ∷ xs) (answers_to_low is next)
         | false ↦ λ _. answers_to_low is s
       ] refl
 
@@ -73,7 +73,7 @@ module _ (l : Label) where
   pub none_crosses : (ps : List CallRecord) → up_to l ps ≡ ps → some_crosses l ps ≡ false
   none_crosses [] e = refl
   none_crosses (p ∷ ps) e =
-      elim (crossing l p.recs) as (λ b. cond b [] (p ∷ up_to l ps) ≡ p ∷ ps → (b || some_crosses l ps) ≡ false) [
+      elim (any_crosses l p.recs) as (λ b. cond b [] (p ∷ up_to l ps) ≡ p ∷ ps → (b || some_crosses l ps) ≡ false) [
         | true ↦ λ e. absurd (cc)
         | false ↦ λ e. none_crosses ps (cc)
       ] e

@@ -1,6 +1,6 @@
 -- The counts of faults of a run.
 use Rattle.std.specs.Prelude.{◌≡◌, ℕ, Result, MatchResult}
-use Rattle.io_ends.specs.Faults.{counted}
+use Rattle.io_ends.specs.Faults.{next_count}
 use Rattle.io_ends.specs.declared.whole.ReadError.{ReadError}
 use Rattle.io_ends.specs.declared.whole.ReadError.TheVariants as read
 use Rattle.lab_engine.specs.declared.ending.Fault.{Fault}
@@ -17,9 +17,9 @@ counts source out trail = record { source = source; out = out; trail = trail }
 
 -- the counts after this fault: one more at its end
 unfoldable pub counted_by : Fault → Counts → Counts
-counted_by Read c = record c { source = counted c.source }
-counted_by Write c = record c { out = counted c.out }
-counted_by Trail c = record c { trail = counted c.trail }
+counted_by Read c = record c { source = next_count c.source }
+counted_by Write c = record c { out = next_count c.out }
+counted_by Trail c = record c { trail = next_count c.trail }
 counted_by Memory c = c
 
 -- a function that succeeded counted no fault, and one that failed counted its fault once

@@ -15,6 +15,8 @@ use Rattle.script_text.specs.declared.fault.LineError.{LineError}
 use Rattle.script_text.specs.Line.{parse_line}
 use Rattle.script_text.specs.Reading.{fault_of}
 use Rattle.sec_utils.specs.Items.{items_of}
+use Rattle.world_text.specs.declared.format.Format.{Format}
+use Rattle.world_text.specs.declared.format.Format.TheVariants.{One, Two}
 use Rattle.world_text.specs.declared.world.WorldText.{WorldText}
 use Rattle.world_text.specs.Reading as world
 use Rattle.world_text.specs.Reading.{read_text}
@@ -69,13 +71,13 @@ after_line (Err e) n more = script [] (Refused n part.Script (fault_of e))
 after_line (Ok line) n more = script (items_in line ++ more.items) more.ending
 
 -- why a last piece is refused that no line feed ends: it is too long, or it does not end
-abbrev pub unended : List ℕ → LineFault
-unended last = cond (nat_lt MAX_LINE (length last)) fault.TooLong fault.Syntax
+abbrev pub fault_of_last : List ℕ → LineFault
+fault_of_last last = cond (nat_lt MAX_LINE (length last)) fault.TooLong fault.Syntax
 
 -- how a script ends at its last piece, which no line feed ends
 abbrev pub last_piece : Bool → ℕ → List ℕ → InputEnd
 last_piece false n [] = Whole
-last_piece false n last = Refused n part.Script (unended last)
+last_piece false n last = Refused n part.Script (fault_of_last last)
 last_piece true n last = cut_off n part.Script fault.TooLong last
 
 -- the script from line n on: its lines up to the first refused one, or to the end
@@ -86,19 +88,39 @@ script_from over policy n (line ∷ next ∷ ls) = after_line (parse_line policy
 
 -- ---- the world
 
+-- what an input is at the end of its world
+pub data Begun : Type 0 where
+  -- with a world: whether the input goes on past the limit, the number of the first line of the script, and the pieces from there on
+  HasWorld : (world : WorldText) (over : Bool) (n : ℕ) (script : List (List ℕ)) → Begun
+  -- without a world it ends so
+  NoWorld : (ending : InputEnd) → Begun
+
+-- the same by what was read of the world; `over` where the input goes on past the limit
+abbrev pub begun_by : Bool → world.Reading → Begun
+begun_by over (world.Accepted w n lines) = HasWorld w over n lines
+begun_by over (world.Refused n why) = NoWorld (Refused n part.World why)
+begun_by over (world.Ended n last) = NoWorld (ends_at over n part.World fault.Syntax last)
+
+-- the same of bytes where a format is due: by the lines of the first 16 MiB, and by whether there is more
+unfoldable pub begun_in : Format → List ℕ → Begun
+begun_in due text = begun_by (nat_lt MAX_INPUT (length text)) (read_text due (take MAX_INPUT text))
+
 abbrev pub of_world : Bool → WorldText → ℕ → List (List ℕ) → Input
 of_world over w n lines = record { accepted = Some w; script = script_from over w.policy n lines }
 
--- an input, by what was read of its world
-abbrev pub input_by : Bool → world.Reading → Input
-input_by over (world.Accepted w n lines) = of_world over w n lines
-input_by over (world.Refused n why) = no_world (Refused n part.World why)
-input_by over (world.Ended n last) = no_world (ends_at over n part.World fault.Syntax last)
+-- an input, by what it is at the end of its world
+abbrev pub input_from : Begun → Input
+input_from (HasWorld w over n lines) = of_world over w n lines
+input_from (NoWorld ending) = no_world ending
 
--- the input that a text is; `over` where it goes on past the limit
-abbrev pub read_input : Bool → List ℕ → Input
-read_input over text = input_by over (read_text text)
+-- the input that bytes are where a format is due
+unfoldable pub input_in : Format → List ℕ → Input
+input_in due text = input_from (begun_in due text)
 
--- the input that bytes are: the lines of the first 16 MiB, and whether there is more
-unfoldable pub input_of : List ℕ → Input
-input_of text = read_input (nat_lt MAX_INPUT (length text)) (take MAX_INPUT text)
+-- the input that bytes are
+abbrev pub input_of : List ℕ → Input
+input_of text = input_in Two text
+
+-- the input that bytes are in the old format
+abbrev pub old_input_of : List ℕ → Input
+old_input_of text = input_in One text

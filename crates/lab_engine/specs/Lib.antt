@@ -6,6 +6,7 @@ pub mod Report
 pub mod Reporter
 pub mod Counts
 pub mod Readable
+pub mod UpgradeInput
 pub mod Reading
 pub mod Handling
 pub mod Opening
@@ -13,5 +14,6 @@ pub mod Playing
 pub mod Player
 pub mod Checking
 pub mod Counting
+pub mod Upgrading
 pub mod Viewing
 pub mod Generated

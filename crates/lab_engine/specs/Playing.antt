@@ -21,7 +21,7 @@ use Rattle.lab_engine.specs.Order.{Sent, out_of, trail_of, to_out, to_trail, cal
 use Rattle.lab_engine.specs.Session.{bytes_from}
 use Rattle.lab_engine.specs.declared.reporting.Report.{Report}
 use Rattle.lab_engine.specs.declared.reporting.Report.TheVariants.{All}
-use Rattle.lab_engine.specs.Report.{report_after, reported}
+use Rattle.lab_engine.specs.Report.{report_after, sends_from}
 
 -- ---- the order of calls
 
@@ -90,14 +90,14 @@ pub record PlaysAll (policy : PolicyNames) (r r' : Report) (s s' : State) (m : S
   pub count : p.count ≡ length m.items
   pub state : s' ≡ state_after_run s m.items
   pub report : r' ≡ report_after r (run s m.items)
-  pub sends : SendsAll (reported r policy 1 (run s m.items)) before after
+  pub sends : SendsAll (sends_from r policy 1 (run s m.items)) before after
   pub readable : r ≡ All → CallsReadable policy 0 s m.items
   pub to_the_end : p.ending ≡ Whole → IsAtEnd left
 
 -- a script was played up to a fault; where a read failed, all calls in the bytes that were taken were played
 pub record StopsIn (policy : PolicyNames) (r : Report) (s : State) (m taken : Script) (fault : Fault) (before after : Ends) : Type 0 where
-  pub stops : StopsBy fault (reported r policy 1 (run s m.items)) before after
-  pub by_line : fault ≡ Read → Sends (reported r policy 1 (run s taken.items)) before after
+  pub stops : StopsBy fault (sends_from r policy 1 (run s m.items)) before after
+  pub by_line : fault ≡ Read → Sends (sends_from r policy 1 (run s taken.items)) before after
 
 -- a script was read from a reader of lines, and played
 pub record PlaysScript (result : Result Played Fault) (policy : PolicyNames) (r r' : Report) (s s' : State) (lines lines' : LinesState) (left left' : Option (List ℕ)) (before after : Ends) : Type 0 where

@@ -1,5 +1,5 @@
 -- What is left of an input at a reader of its lines, and what each line says of it.
-use Rattle.std.specs.Prelude.{◌≡◌, ℕ, ◌+◌, ◌<◌, true, List, [], ◌++◌, length, take, nat_lt, Option, Some, None, Result, MatchResult}
+use Rattle.std.specs.Prelude.{◌≡◌, ℕ, ◌+◌, ◌<◌, true, List, [], ◌++◌, length, take, nat_lt, Option, Some, None, Result, Ok, MatchResult}
 use Rattle.std.specs.Io.KnownBytes.{Consumes, IsAtEnd}
 use Rattle.fs_path.specs.Split.{pieces}
 use Rattle.io_ends.specs.LinesState.{LinesState, may_take}
@@ -8,8 +8,9 @@ use Rattle.script_text.specs.Line.{MayBePlayed}
 use Rattle.script_text.specs.declared.line.Line.{Line}
 use Rattle.world_text.specs.declared.expecting.Expecting.{Expecting}
 use Rattle.world_text.specs.declared.expecting.Expecting.TheVariants as at
+use Rattle.world_text.specs.declared.format.Format.{Format}
 use Rattle.world_text.specs.declared.world.WorldText.{WorldText}
-use Rattle.world_text.specs.Reading.{reading}
+use Rattle.world_text.specs.Reading.{read_lines}
 use Rattle.lab_engine.specs.declared.ending.Fault.{Fault}
 use Rattle.lab_engine.specs.declared.ending.Fault.TheVariants.{Read as ReadFault}
 use Rattle.lab_engine.specs.declared.ending.InputEnd.{InputEnd}
@@ -20,13 +21,18 @@ use Rattle.lab_engine.specs.declared.reading.WorldLine.{WorldLine}
 use Rattle.lab_engine.specs.declared.reading.WorldLine.TheVariants as world_line
 use Rattle.lab_engine.specs.declared.reading.NextLine.{NextLine}
 use Rattle.lab_engine.specs.declared.reading.NextLine.TheVariants as next
-use Rattle.lab_engine.specs.Input.{Input, Script, input_by, items_in, no_world, script, script_from}
+use Rattle.lab_engine.specs.Input.{Begun, HasWorld, NoWorld, Script, begun_by, input_from, items_in, script, script_from}
+use Rattle.lab_engine.specs.UpgradeInput.{after_kept, fault_in, kept_script, upgrade_at}
 
 -- ---- what is left at a reader, where these bytes come after those that it holds
 
--- the input, from a line of its world on
-unfoldable pub input_at : Expecting → LinesState → List ℕ → Input
-input_at expecting s more = input_by (nat_lt s.room (length (s.held ++ more))) (reading (s.number + 1) expecting (pieces 10 (take s.room (s.held ++ more))))
+-- what the input is at the end of its world, from a line of that on
+unfoldable pub begun_at : Expecting → LinesState → List ℕ → Begun
+begun_at expecting s more = begun_by (nat_lt s.room (length (s.held ++ more))) (read_lines (s.number + 1) expecting (pieces 10 (take s.room (s.held ++ more))))
+
+-- the same where a world was accepted, and its script is left
+unfoldable pub script_left : WorldText → LinesState → List ℕ → Begun
+script_left w s more = HasWorld w (nat_lt s.room (length (s.held ++ more))) (s.number + 1) (pieces 10 (take s.room (s.held ++ more)))
 
 -- the script
 unfoldable pub script_at : PolicyNames → LinesState → List ℕ → Script
@@ -46,24 +52,24 @@ pub record Takes (before now : LinesState) (left left' : Option (List ℕ)) (tak
 
 -- a world was accepted, and its script is what is left
 pub record Accepts (e : Expecting) (before now : LinesState) (taken : List ℕ) (w : WorldText) : Type 0 where
-  pub says : (more : List ℕ) → input_at e before (taken ++ more) ≡ record { accepted = Some w; script = script_at w.policy now more }
+  pub says : (more : List ℕ) → begun_at e before (taken ++ more) ≡ script_left w now more
   pub more : now.more ≡ true
   pub fewer : now.room < before.room
 
 -- the input ends before its world does
 pub record EndsWorld (e : Expecting) (before : LinesState) (left : Option (List ℕ)) (taken : List ℕ) (ending : InputEnd) : Type 0 where
-  pub says : input_at e before (taken ++ left_of left) ≡ no_world ending
+  pub says : begun_at e before (taken ++ left_of left) ≡ NoWorld ending
   pub to_the_end : ending ≡ Whole → IsAtEnd left
 
 -- after a line of the world another one is expected
 pub record GoesOn (e : Expecting) (before now : LinesState) (taken : List ℕ) (after : Expecting) : Type 0 where
-  pub says : (more : List ℕ) → input_at e before (taken ++ more) ≡ input_at after now more
+  pub says : (more : List ℕ) → begun_at e before (taken ++ more) ≡ begun_at after now more
   pub more : now.more ≡ true
   pub fewer : now.room < before.room
 
 -- where a read failed, the bytes that were taken have no whole world
 abbrev pub HasNoWorld : Expecting → LinesState → List ℕ → Fault → Type 0
-HasNoWorld e before taken fault = fault ≡ ReadFault → (input_at e before taken).accepted ≡ None
+HasNoWorld e before taken fault = fault ≡ ReadFault → (input_from (begun_at e before taken)).accepted ≡ None
 
 -- what a line of a world says
 abbrev pub SaysLine : Expecting → LinesState → LinesState → Option (List ℕ) → List ℕ → WorldLine → Type 0
@@ -82,17 +88,20 @@ pub record ReadsLine (result : Result WorldLine Fault) (e : Expecting) (before n
   pub takes : Takes before now left left' taken
   pub shows : MatchResult result (λ line. SaysLine e before now left' taken line) (λ fault. HasNoWorld e before taken fault)
 
--- a world was read, from its first line on
-pub record ReadsWorld (result : Result ReadWorld Fault) (before now : LinesState) (left left' : Option (List ℕ)) : Type 0 where
+-- a world of the format that is due was read, from its first line on
+pub record ReadsWorld (due : Format) (result : Result ReadWorld Fault) (before now : LinesState) (left left' : Option (List ℕ)) : Type 0 where
   pub taken : List ℕ
   pub takes : Takes before now left left' taken
-  pub shows : MatchResult result (λ world. SaysWorld at.Format before now left' taken world) (λ fault. HasNoWorld at.Format before taken fault)
+  pub shows : MatchResult result (λ world. SaysWorld (at.Format due) before now left' taken world) (λ fault. HasNoWorld (at.Format due) before taken fault)
 
 -- ---- the script
 
--- a script begins with a line, whose calls may be played, and goes on with what is left; the line has more bytes than calls
+-- a script begins with a line, whose calls may be played, and goes on with what is left; the line has more bytes than calls;
+-- an upgrade refuses it or keeps it
 pub record BeginsWith (policy : PolicyNames) (before now : LinesState) (taken : List ℕ) (line : Line) : Type 0 where
   pub says : (more : List ℕ) → script_at policy before (taken ++ more) ≡ script (items_in line ++ (script_at policy now more).items) (script_at policy now more).ending
+  pub keeps : (more : List ℕ) → upgrade_at policy before (taken ++ more) ≡ after_kept (fault_in (Ok line)) now.number now.line (upgrade_at policy now more)
+  pub number : 0 < now.number
   pub calls : MayBePlayed (top_of policy) line
   pub more : now.more ≡ true
   pub fewer : length (items_in line) + now.room < before.room
@@ -100,6 +109,7 @@ pub record BeginsWith (policy : PolicyNames) (before now : LinesState) (taken : 
 -- a script ends without a further call
 pub record EndsScript (policy : PolicyNames) (before : LinesState) (left : Option (List ℕ)) (taken : List ℕ) (ending : InputEnd) : Type 0 where
   pub says : script_at policy before (taken ++ left_of left) ≡ script [] ending
+  pub keeps : upgrade_at policy before (taken ++ left_of left) ≡ kept_script [] ending
   pub to_the_end : ending ≡ Whole → IsAtEnd left
 
 -- what is next in a script

@@ -8,7 +8,7 @@ use Rattle.kern_model.specs.declared.records.Outcome as declared
 use Rattle.kern_model.specs.declared.records.Rec.{Rec}
 use Rattle.kern_model.specs.declared.records.Rec.TheVariants as rec
 use Rattle.kern_model.specs.declared.world.ScriptItem.{ScriptItem}
-use Rattle.kern_model.specs.Isolation.{crossing, low}
+use Rattle.kern_model.specs.Isolation.{any_crosses, low}
 use Rattle.kern_model.specs.Run.{CallRecord, run}
 use Rattle.kern_model.specs.State.{State}
 use Rattle.lab_text.specs.Policy.{PolicyNames}
@@ -60,7 +60,7 @@ tally_of t calls = record {
 -- what is kept after a call
 abbrev pub report_after_call : Report → CallRecord → Report
 report_after_call All p = All
-report_after_call (Below l k) p = cond (crossing l p.recs) Crossed (cond (low l p.who.label) (Below l (k + 1)) (Below l k))
+report_after_call (Below l k) p = cond (any_crosses l p.recs) Crossed (cond (low l p.who.label) (Below l (k + 1)) (Below l k))
 report_after_call Crossed p = Crossed
 report_after_call (Counted t) p = Counted (tally_of t (p ∷ []))
 
@@ -85,18 +85,18 @@ crossed_line = codes "crossed" ++ 10 ∷ []
 -- what is written of the n-th call
 unfoldable pub call_sends : Report → PolicyNames → ℕ → CallRecord → List Sent
 call_sends All policy n p = call_order (call_bytes policy n p)
-call_sends (Below l k) policy n p = cond (crossing l p.recs) (to_out crossed_line) (cond (low l p.who.label) (to_out (reply_text policy p)) [])
+call_sends (Below l k) policy n p = cond (any_crosses l p.recs) (to_out crossed_line) (cond (low l p.who.label) (to_out (reply_text policy p)) [])
 call_sends Crossed policy n p = []
 call_sends (Counted t) policy n p = []
 
 -- what is written of calls from the n-th on
-unfoldable pub reported : Report → PolicyNames → ℕ → List CallRecord → List Sent
-reported r policy n [] = []
-reported r policy n (p ∷ ps) = call_sends r policy n p ++ reported (report_after_call r p) policy (n + 1) ps
+unfoldable pub sends_from : Report → PolicyNames → ℕ → List CallRecord → List Sent
+sends_from r policy n [] = []
+sends_from r policy n (p ∷ ps) = call_sends r policy n p ++ sends_from (report_after_call r p) policy (n + 1) ps
 
 -- what is written of items that are played from a state on, after so many calls
 abbrev pub items_reported : Report → PolicyNames → ℕ → State → List ScriptItem → List Sent
-items_reported r policy count s items = reported r policy (count + 1) (run s items)
+items_reported r policy count s items = sends_from r policy (count + 1) (run s items)
 
 -- ---- by parts
 
@@ -107,7 +107,7 @@ call_record who head o = record { who = who; head = head; reply = o.reply; recs 
 -- what is written of a call of this process with these records
 abbrev pub shown_of : Report → Pid → List Rec → Shown
 shown_of All who recs = shown.Call
-shown_of (Below l k) who recs = cond (crossing l recs) shown.Crossing (cond (low l who.label) shown.Reply shown.Nothing)
+shown_of (Below l k) who recs = cond (any_crosses l recs) shown.Crossing (cond (low l who.label) shown.Reply shown.Nothing)
 shown_of Crossed who recs = shown.Nothing
 shown_of (Counted t) who recs = shown.Nothing
 

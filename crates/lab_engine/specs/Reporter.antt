@@ -11,7 +11,7 @@ use Rattle.kern_model.specs.declared.records.Outcome.{Outcome}
 use Rattle.kern_model.specs.declared.calls.Reply.{Reply}
 use Rattle.kern_model.specs.declared.world.ScriptItem.{ScriptItem}
 use Rattle.kern_model.specs.Names.{name_of, word_of}
-use Rattle.kern_model.specs.Run.{CallRecord, played, run}
+use Rattle.kern_model.specs.Run.{CallRecord, item_record, run}
 use Rattle.kern_model.specs.State.{State}
 use Rattle.lab_lattice.specs.Label.{bottom}
 use Rattle.lab_text.specs.Policy.{PolicyNames}
@@ -29,7 +29,7 @@ use Rattle.lab_engine.specs.Order.{Sent}
 use Rattle.lab_engine.specs.Playing.{Ends, Sends, ends}
 use Rattle.lab_engine.specs.Readable.{IsReadable}
 use Rattle.lab_engine.specs.Reading.{Takes, left_of, script_at}
-use Rattle.lab_engine.specs.Report.{call_record, report_after, reported}
+use Rattle.lab_engine.specs.Report.{call_record, report_after, sends_from}
 use Rattle.lab_engine.specs.Session.{numbered_from}
 
 -- the names of labels are the same as before, and so are the borrows of the output and of the trail
@@ -66,7 +66,7 @@ call_on line at outcome = call_record (who_on line) (head_on line at) outcome
 
 -- the same call as it is played from a state on
 abbrev pub played_at : State → ReplyLine → Call → CallRecord
-played_at s r call = played s (item_on r.line.now r.at call)
+played_at s r call = item_record s (item_on r.line.now r.at call)
 
 -- the line of the output with a reply to the call
 abbrev pub reply_at : PolicyNames → ReplyLine → Reply → List ℕ
@@ -105,8 +105,8 @@ pub record SawScript (result : Result Played Fault) (policy : PolicyNames) (s : 
 pub record HoldReports (policy : PolicyNames) (first now : Report) (seen stopped : List CallRecord) (before after : Ends) : Type 0 where
   pub front : List Sent
   pub rest : List Sent
-  pub next : reported (report_after first seen) policy (length seen + 1) stopped ≡ front ++ rest
-  pub sends : Sends (reported first policy 1 seen ++ front) before after
+  pub next : sends_from (report_after first seen) policy (length seen + 1) stopped ≡ front ++ rest
+  pub sends : Sends (sends_from first policy 1 seen ++ front) before after
   pub report : stopped ≡ [] → now ≡ report_after first seen
   pub readable : first ≡ All → AllByRecursion (IsReadable policy) (numbered_from 1 seen)
   pub one : length stopped ≤ 1

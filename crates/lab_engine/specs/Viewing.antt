@@ -3,7 +3,7 @@ use Rattle.std.specs.Prelude.{ℕ, Bool, List, [], ◌++◌, cond, length, Some}
 use Rattle.std.specs.List.{filter, flat_map, list_any}
 use Rattle.lab_lattice.specs.Label.{Label}
 use Rattle.kern_model.specs.Boot.{boot, boot_recs}
-use Rattle.kern_model.specs.Isolation.{crossing, low, part, part_script, up_to}
+use Rattle.kern_model.specs.Isolation.{any_crosses, low, part, part_script, up_to}
 use Rattle.kern_model.specs.Run.{CallRecord, run, state_after_run}
 use Rattle.lab_engine.specs.declared.ending.InputEnd.{InputEnd}
 use Rattle.lab_engine.specs.declared.ending.InputEnd.TheVariants.{Whole}
@@ -18,7 +18,7 @@ low_calls l calls = filter (λ (p : CallRecord). low l p.who.label) calls
 
 -- whether a call crosses l
 abbrev pub some_crosses : Label → List CallRecord → Bool
-some_crosses l calls = list_any (λ (p : CallRecord). crossing l p.recs) calls
+some_crosses l calls = list_any (λ (p : CallRecord). any_crosses l p.recs) calls
 
 -- the calls that l sees: those before the first one that crosses it
 abbrev pub visible_calls : Label → List CallRecord → List CallRecord

@@ -14,6 +14,7 @@ mod replying;
 mod reporter;
 mod reporting;
 mod texts;
+mod upgrading;
 
 pub use checking::check_script;
 pub use counting::count_script;
@@ -25,3 +26,4 @@ pub use reading::{NextLine, read_next};
 pub use reporter::{Reporter, answer, report_last, write_head};
 pub use reporting::{Report, Tally};
 pub use texts::{Texts, end_line};
+pub use upgrading::upgrade_script;

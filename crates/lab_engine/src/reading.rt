@@ -9,7 +9,7 @@ use io_ends::{Lines, Next, Source};
 use line_text::LineFault;
 use script_text::{Line, read_line};
 use std::alloc::Global;
-use world_text::{Expecting, Parsed, WorldText, parse_line};
+use world_text::{Expecting, Format, Parsed, WorldText, parse_line};
 
 /// What reading a world leads to.
 #[derive(Drop)]
@@ -40,8 +40,8 @@ pub enum NextLine {
     Ended(InputEnd),
 }
 
-// The end of an input at a line that is refused.
-fn refused(lines: &Lines, part: Part, why: LineFault) -> InputEnd
+/// The end of an input at a line that is refused.
+pub fn refused(lines: &Lines, part: Part, why: LineFault) -> InputEnd
     ensures { result ≡ InputEnd.Refused lines.now.number part why }
 {
     InputEnd::Refused(u64::from(lines.number()), part, why)
@@ -75,17 +75,19 @@ fn read_world_line<S: Source>(
     }
 }
 
-/// Reads the world of an input, and takes no more of it from the source than the reader needs for its last line.
+/// Reads the world of an input, in the format that is due, and takes no more of it from the source than the reader needs for
+/// its last line.
 pub fn read_world<S: Source>(
     alloc: Global,
+    due: Format,
     lines: &mut Lines,
     source: &mut S,
 ) -> Result<ReadWorld, Fault>
     requires { lines.old.more ≡ true }
-    ensures reads { ReadsWorld result lines.old lines.new (S.view source.old).left (S.view source.new).left }
+    ensures reads { ReadsWorld due result lines.old lines.new (S.view source.old).left (S.view source.new).left }
     ensures counts { (o t : ℕ) → CountsOnce result (counts (S.view source.old).faults o t) (counts (S.view source.new).faults o t) }
 {
-    let mut expecting = Expecting::Format;
+    let mut expecting = Expecting::Format(due);
     loop {
         match read_world_line(alloc, expecting, lines, source)? {
             WorldLine::GoesOn(after) => expecting = after,

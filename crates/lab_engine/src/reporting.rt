@@ -1,7 +1,7 @@
 // What a run reports of its calls.
 ghost use Rattle.std.specs.Prelude.{◌≡◌, ◌^◌, ◌∷◌, [], ℕ, List, cond, IfOk, OnOk};
 ghost use Rattle.kern_model.specs.declared.numbers.Pid.{Pid};
-ghost use Rattle.kern_model.specs.Isolation.{crosses, crossing as crossing_of, differ, is_mac as is_mac_cap, low};
+ghost use Rattle.kern_model.specs.Isolation.{crosses, any_crosses, differ, is_mac as is_mac_cap, low};
 ghost use Rattle.lab_engine.specs.declared.reporting.Report.TheVariants as a_report;
 ghost use Rattle.lab_engine.specs.Report.{CountsAtMost, call_record, empty_tally, exercises as exercises_among, is_exercise, report_after_call, shown_of, tally_of};
 
@@ -82,8 +82,8 @@ fn crosses_label(label: &Label, rec: &Rec) -> bool
 }
 
 // Whether a record among these crosses a label.
-fn crossing(label: &Label, recs: &[Rec]) -> bool
-    ensures { result ≡ crossing_of label.now recs.now }
+fn any_crosses(label: &Label, recs: &[Rec]) -> bool
+    ensures { result ≡ any_crosses label.now recs.now }
 {
     recs.iter().any(|rec| crosses_label(label, rec))
 }
@@ -149,7 +149,7 @@ impl Report {
         match self {
             Report::All => Ok(Shown::Call),
             Report::Below(label, written) => {
-                if crossing(label, outcome.recs.items()) {
+                if any_crosses(label, outcome.recs.items()) {
                     *self = Report::Crossed;
                     return Ok(Shown::Crossing);
                 }

@@ -14,7 +14,7 @@ use Rattle.fs_path.specs.Split.{pieces_of_rest, after_first_of}
 use Rattle.fs_path.proofs.SplitLemmas.{position_found, position_missing}
 use Rattle.lab_text.specs.Names.{Names, same_bytes, place_of}
 use Rattle.lab_text.specs.Policy.{PolicyNames, grade_at}
-use Rattle.lab_text.specs.Text.{is_colon, before_slash, label_words, is_label_text, places_of, grade_named, labelled, label_of, parse_label, first_unknown, unknown_in, SaysNone, names_in, past_mark}
+use Rattle.lab_text.specs.Text.{is_colon, before_slash, label_words, is_label_text, places_of, grade_named, label_of_parts, label_of, parse_label, first_unknown, unknown_in, SaysNone, names_in, past_mark}
 use Rattle.lab_text.proofs.Parsed.{words_of, unplaced}
 use Rattle.lab_text.specs.declared.text.LabelError.{LabelError}
 use Rattle.lab_text.specs.declared.text.LabelError.TheVariants as error
@@ -44,10 +44,10 @@ module _ {text before level : List ℕ} {list grade : Option (List ℕ)} (h : Is
         → parse_label p text ≡ Some (record { first = record { first = first; second = second }; second = record { inner = inner } })
     unfolding parse_label
     read_parsed first second inner e f g =
-        ap (option_and_then (label_of p)) read_words ∙ (λ i. labelled (e i) (places_of p.cats (pieces_of_rest 44 list)) (g i)) ∙ by_cats (places_of p.cats (pieces_of_rest 44 list)) f
+        ap (option_and_then (label_of p)) read_words ∙ (λ i. label_of_parts (e i) (places_of p.cats (pieces_of_rest 44 list)) (g i)) ∙ by_cats (places_of p.cats (pieces_of_rest 44 list)) f
       where
         by_cats : (cats : Option (List ℕ)) → option_map set.from_list cats ≡ Some second
-            → labelled (Some first) cats (Some inner) ≡ Some (record { first = record { first = first; second = second }; second = record { inner = inner } })
+            → label_of_parts (Some first) cats (Some inner) ≡ Some (record { first = record { first = first; second = second }; second = record { inner = inner } })
         by_cats None h = absurd (cc)
         by_cats (Some is) h = ap (λ (c : CatSet). Some (record { first = record { first = first; second = c }; second = record { inner = inner } })) (same_Some (set.from_list is) second h)
 

@@ -22,7 +22,7 @@ use Rattle.lab_lattice.specs.Laws.{has-cover, cover-has, same_cats, pair_parts, 
 use Rattle.lab_text.specs.Names.{Names, same_bytes, is_label_name, is_name_part, are_distinct, place_of}
 use Rattle.lab_text.specs.declared.lists.NameList.TheVariants.{Levels, Categories, Grades}
 use Rattle.lab_text.specs.Policy.{PolicyNames, MakePolicy, grade_at, lowest_grade, label_with, top_of, is_valid}
-use Rattle.lab_text.specs.Text.{is_colon, LabelWords, before_slash, parts_of, are_names, label_words, is_label_text, places_of, grade_named, labelled, label_of, parse_label, first_unknown, unknown_in, SaysNone, names_in, past_mark, grade_name, written_grade, past_slash, label_text}
+use Rattle.lab_text.specs.Text.{is_colon, LabelWords, before_slash, parts_of, are_names, label_words, is_label_text, places_of, grade_named, label_of_parts, label_of, parse_label, first_unknown, unknown_in, SaysNone, names_in, past_mark, grade_name, written_grade, past_slash, label_text}
 use Rattle.lab_text.specs.declared.text.LabelError.{LabelError}
 use Rattle.lab_text.specs.declared.text.LabelError.TheVariants as error
 use Rattle.lab_text.proofs.PolicyFacts.{policy_facts, some_level, unlisted_unplaced, place_of_own}
@@ -73,20 +73,20 @@ grade_unplaced known at a (Some w) h = ap (option_map (grade_at known)) (unplace
 not_parsed : (p : PolicyNames) (text : List ℕ) (w : LabelWords) (e : LabelError) → unknown_in p text w ≡ Some e → label_of p w ≡ None
 not_parsed p text w e h = by_unknown (first_unknown p.levels 0 (w.level ∷ [])) (first_unknown p.cats (length w.level + 1) w.cats) (first_unknown p.grades (length (before_slash text) + 1) (option_to_list w.grade)) refl refl refl h
   where
-    no_cats : (o : Option ℕ) (g : Option Grade) → labelled o None g ≡ None
+    no_cats : (o : Option ℕ) (g : Option Grade) → label_of_parts o None g ≡ None
     no_cats None g = refl
     no_cats (Some i) g = refl
 
-    no_grade : (o : Option ℕ) (r : Option (List ℕ)) → labelled o r None ≡ None
+    no_grade : (o : Option ℕ) (r : Option (List ℕ)) → label_of_parts o r None ≡ None
     no_grade None r = refl
     no_grade (Some i) None = refl
     no_grade (Some i) (Some is) = refl
 
     by_unknown : (a b c : Option ℕ) → first_unknown p.levels 0 (w.level ∷ []) ≡ a → first_unknown p.cats (length w.level + 1) w.cats ≡ b → first_unknown p.grades (length (before_slash text) + 1) (option_to_list w.grade) ≡ c
         → option_or (option_map error.UnknownLevel a) (option_or (option_map error.UnknownCategory b) (option_map error.UnknownGrade c)) ≡ Some e → label_of p w ≡ None
-    by_unknown (Some a) b c f g k h = ap (λ o. labelled o (places_of p.cats w.cats) (grade_named p.grades w.grade)) (unplaced_one p.levels 0 a w.level f)
-    by_unknown None (Some b) c f g k h = ap (λ o. labelled (place_of p.levels w.level) o (grade_named p.grades w.grade)) (unplaced p.cats (length w.level + 1) b w.cats g) ∙ no_cats (place_of p.levels w.level) (grade_named p.grades w.grade)
-    by_unknown None None (Some c) f g k h = ap (labelled (place_of p.levels w.level) (places_of p.cats w.cats)) (grade_unplaced p.grades (length (before_slash text) + 1) c w.grade k) ∙ no_grade (place_of p.levels w.level) (places_of p.cats w.cats)
+    by_unknown (Some a) b c f g k h = ap (λ o. label_of_parts o (places_of p.cats w.cats) (grade_named p.grades w.grade)) (unplaced_one p.levels 0 a w.level f)
+    by_unknown None (Some b) c f g k h = ap (λ o. label_of_parts (place_of p.levels w.level) o (grade_named p.grades w.grade)) (unplaced p.cats (length w.level + 1) b w.cats g) ∙ no_cats (place_of p.levels w.level) (grade_named p.grades w.grade)
+    by_unknown None None (Some c) f g k h = ap (label_of_parts (place_of p.levels w.level) (places_of p.cats w.cats)) (grade_unplaced p.grades (length (before_slash text) + 1) c w.grade k) ∙ no_grade (place_of p.levels w.level) (places_of p.cats w.cats)
     by_unknown None None None f g k h = absurd (cc)
 
 none_parsed : (p : PolicyNames) (text : List ℕ) (o : Option LabelWords) (e : LabelError) → option_and_then (unknown_in p text) o ≡ Some e → option_and_then (label_of p) o ≡ None
@@ -151,7 +151,7 @@ record HasParts (level : Option ℕ) (cats : Option (List ℕ)) (grade : Option 
   pub grade_is : grade ≡ Some inner
   pub label_is : label_with place places inner ≡ label
 
-label_parts : (level : Option ℕ) (cats : Option (List ℕ)) (grade : Option Grade) (label : Label) → labelled level cats grade ≡ Some label → HasParts level cats grade label
+label_parts : (level : Option ℕ) (cats : Option (List ℕ)) (grade : Option Grade) (label : Label) → label_of_parts level cats grade ≡ Some label → HasParts level cats grade label
 label_parts None cats grade label h = absurd (cc)
 label_parts (Some i) None grade label h = absurd (cc)
 label_parts (Some i) (Some is) None label h = absurd (cc)
@@ -273,7 +273,7 @@ unfolding parse_label
 level_parsed p text level cats grade placed named none highest =
     ap (λ t. option_and_then (label_of p) (label_words t)) (sym (append-nil (text ++ []) ∙ append-nil text))
     ∙ ap (option_and_then (label_of p)) (parse_words text [] named refl None refl)
-    ∙ ap (λ o. labelled o (Some []) (Some highest_grade)) placed
+    ∙ ap (λ o. label_of_parts o (Some []) (Some highest_grade)) placed
     ∙ (λ i. Some (record { first = record { first = level; second = sym none i }; second = record { inner = sym highest i } }))
 
 -- ---- the categories in a label's text
@@ -420,5 +420,5 @@ parse_text p label h valid =
     let within : label.first.first < length p.levels = omega arith in
     let names = text_names p label h valid in
     ap (option_and_then (label_of p)) (ap label_words names.text_is ∙ parse_words names.level names.cats names.level_name names.cat_names names.grade names.grade_names)
-    ∙ (λ i. labelled (place_of_own p.levels label.first.first levels.apart within i) (places_named p.cats label.first.second 0 p.cats cats.apart refl i) (written_back p.grades label.second.inner grades.few grades.apart (valid_grade p label valid) i))
+    ∙ (λ i. label_of_parts (place_of_own p.levels label.first.first levels.apart within i) (places_named p.cats label.first.second 0 p.cats cats.apart refl i) (written_back p.grades label.second.inner grades.few grades.apart (valid_grade p label valid) i))
     ∙ ap (λ (cats : CatSet). Some (record { first = record { first = label.first.first; second = cats }; second = label.second })) (numbers_back label.first.second p.cats (valid_cats p label valid))

@@ -63,12 +63,12 @@ grade_named names None = Some highest_grade
 grade_named names (Some word) = option_map (grade_at names) (place_of names word)
 
 -- the label of a level, categories and a grade, where there are all of these
-abbrev pub labelled : Option ℕ → Option (List ℕ) → Option Grade → Option Label
-labelled level cats grade = option_and_then (λ level. option_and_then (λ cats. option_map (label_with level cats) grade) cats) level
+abbrev pub label_of_parts : Option ℕ → Option (List ℕ) → Option Grade → Option Label
+label_of_parts level cats grade = option_and_then (λ level. option_and_then (λ cats. option_map (label_with level cats) grade) cats) level
 
 -- the label of names
 abbrev pub label_of : PolicyNames → LabelWords → Option Label
-label_of p w = labelled (place_of p.levels w.level) (places_of p.cats w.cats) (grade_named p.grades w.grade)
+label_of p w = label_of_parts (place_of p.levels w.level) (places_of p.cats w.cats) (grade_named p.grades w.grade)
 
 -- the label that a text denotes
 unfoldable pub parse_label : PolicyNames → List ℕ → Option Label

@@ -20,7 +20,7 @@ const NOT_EMPTY: &str = "is a word that is not empty and does not begin with -";
 
 const LINES: &str = "is a number from 1 to 100000";
 
-static COMMANDS: [CommandHelp; 5] = [
+static COMMANDS: [CommandHelp; 6] = [
     CommandHelp {
         word: "play",
         usage: "labsys play FILE < WORLD",
@@ -56,6 +56,13 @@ static COMMANDS: [CommandHelp; 5] = [
         form: LINES,
         about: "plays the world that gen N writes, and counts the answers",
     },
+    CommandHelp {
+        word: "upgrade",
+        usage: "labsys upgrade < OLD",
+        argument: None,
+        form: "",
+        about: "writes OLD, an input of the old format, in the format of today",
+    },
 ];
 
 // Whether a word asks for help.
@@ -81,8 +88,8 @@ impl CommandHelp {
     }
 }
 
-// The command with a word, as help shows it.
-fn named(word: &str) -> Option<&'static CommandHelp> {
+// The help of the command with a word.
+fn help_of(word: &str) -> Option<&'static CommandHelp> {
     COMMANDS.iter().find(|command| command.word == word)
 }
 
@@ -92,7 +99,7 @@ pub fn mistake(alloc: Global, words: &[String]) -> Result<String, AllocError> {
     let [word, more @ ..] = words else {
         return String::from_str(alloc, "a command is missing; try labsys --help");
     };
-    match named(word.as_str()) {
+    match help_of(word.as_str()) {
         Some(command) => command.mistake(alloc, more),
         None => format!(in alloc; "{:?} is no command; try labsys --help", word.as_str()),
     }

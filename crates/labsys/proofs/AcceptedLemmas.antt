@@ -14,10 +14,12 @@ use Rattle.script_text.specs.declared.fault.LineError.{LineError}
 use Rattle.script_text.specs.Line.{parse_line, MayBePlayed}
 use Rattle.sec_utils.proofs.ItemLaws.{items_played}
 use Rattle.script_text.proofs.LineLaws.{parsed_played}
+use Rattle.world_text.specs.declared.format.Format.{Format}
+use Rattle.world_text.specs.declared.format.Format.TheVariants.{Two}
 use Rattle.world_text.specs.declared.world.WorldText.{WorldText}
 use Rattle.world_text.proofs.Accepted.{accepted_world, accepted_top, accepted_policy}
 use Rattle.world_text.specs.Reading.{Reading, Accepted, Refused as Stopped, Ended, read_text}
-use Rattle.lab_engine.specs.Input.{Accepted as AcceptedWorld, Script, items_in, after_line, script_from, input_by, input_of}
+use Rattle.lab_engine.specs.Input.{Accepted as AcceptedWorld, Script, items_in, after_line, script_from, begun_by, begun_in, input_from, input_in, input_of}
 
 -- ---- scripts
 
@@ -55,20 +57,23 @@ pub record IsPlayable (a : AcceptedWorld) (s : Script) : Type 0 where
 same_some : (w a : WorldText) → Some w ≡ Some a → w ≡ a
 same_some w a e = cc
 
-module _ (over : Bool) (a : WorldText) where
-  by_reading : (text : List ℕ) (r : Reading) → read_text text ≡ r → (input_by over r).accepted ≡ Some a → IsPlayable a (input_by over r).script
+module _ (over : Bool) (due : Format) (a : WorldText) where
+  by_reading : (text : List ℕ) (r : Reading) → read_text due text ≡ r → (input_from (begun_by over r)).accepted ≡ Some a → IsPlayable a (input_from (begun_by over r)).script
   by_reading text (Accepted w n ls) is e =
       let s = script_from over w.policy n ls in
       subst (λ (v : WorldText). IsPlayable v s) (same_some w a e) (record {
-        world = accepted_world text w n ls is;
-        top = accepted_top text w n ls is;
-        policy = accepted_policy text w n ls is;
-        script = subst (λ (top : Label). is_script top s.items ≡ true) (sym (accepted_top text w n ls is)) (script_played w.policy over n ls);
+        world = accepted_world due text w n ls is;
+        top = accepted_top due text w n ls is;
+        policy = accepted_policy due text w n ls is;
+        script = subst (λ (top : Label). is_script top s.items ≡ true) (sym (accepted_top due text w n ls is)) (script_played w.policy over n ls);
       })
   by_reading text (Stopped n why) is e = absurd (cc)
   by_reading text (Ended n last) is e = absurd (cc)
 
 -- an accepted world and its script can be played
+pub accepted_in : (due : Format) (text : List ℕ) (a : WorldText) → (input_in due text).accepted ≡ Some a → IsPlayable a (input_in due text).script
+unfolding input_in begun_in
+accepted_in due text a is = by_reading (nat_lt MAX_INPUT (length text)) due a (take MAX_INPUT text) (read_text due (take MAX_INPUT text)) refl is
+
 pub accepted_input : (text : List ℕ) (a : WorldText) → (input_of text).accepted ≡ Some a → IsPlayable a (input_of text).script
-unfolding input_of
-accepted_input text a is = by_reading (nat_lt MAX_INPUT (length text)) a (take MAX_INPUT text) (read_text (take MAX_INPUT text)) refl is
+accepted_input text a is = accepted_in Two text a is

@@ -11,7 +11,7 @@ use Rattle.kern_model.specs.Prefixes.{IsPrefix}
 use Rattle.kern_model.specs.Lineage.{OnlyDrops, GrowsByExec}
 use Rattle.iso_laws.proofs.Laws.{drops_by_records, growth_by_records}
 use Rattle.labsys.specs.declared.command.Command.{Command}
-use Rattle.labsys.specs.declared.command.Command.TheVariants.{Play, Check, Gen, Drill, View}
+use Rattle.labsys.specs.declared.command.Command.TheVariants.{Play, Check, Gen, Drill, View, Upgrade}
 use Rattle.lab_engine.specs.declared.ending.InputEnd.{InputEnd}
 use Rattle.lab_engine.specs.declared.ending.InputEnd.TheVariants.{Whole, Refused as IsRefused, TooMuch}
 use Rattle.lab_engine.specs.declared.ending.Fault.{Fault}
@@ -28,14 +28,19 @@ use Rattle.io_ends.specs.Ends.{sink_view}
 use Rattle.lab_engine.specs.Playing.{Ends, Sends, Writes, faults_of}
 use Rattle.labsys.specs.Playing.{CommandDid}
 use Rattle.lab_engine.specs.Reading.{left_of}
-use Rattle.lab_engine.specs.Viewing.{session_alone, view_text}
+use Rattle.lab_engine.specs.Viewing.{session_alone, unless_whole, view_text}
 use Rattle.lab_text.specs.Text.{parse_label}
 use Rattle.kern_model.specs.Isolation.{up_to}
+use Rattle.world_text.specs.Written.{text_of_world}
+use Rattle.lab_engine.specs.UpgradeInput.{UpgradeInput, upgrade_of}
+use Rattle.lab_engine.specs.Upgrading.{UpgradedTo}
+use Rattle.lab_engine.proofs.UpgradeLaws.{upgraded}
+use Rattle.labsys.specs.Upgrading.{WorldReadsBack, order_of_upgrade, upgrade_text}
 use Rattle.labsys.specs.Viewing.{text_of_view, viewed_text}
 use Rattle.labsys.specs.Lineage.{PrintedByAny}
-use Rattle.labsys.specs.Promises.{Plays, Views}
+use Rattle.labsys.specs.Promises.{Plays, Upgrades, Views}
 use Rattle.labsys.specs.Readable.{InputReadable}
-use Rattle.labsys.specs.Clauses.{status_of, HasAllCalls, OnWhole, PlayedTaken, Reports, reports, if_used, used, Moved, run_of, WhereReported, WhereAccepted, TakesAtMost, Covered, RepliesFirst, Printed, Dropped, Written, Isolated, IsolatedWhole, SameBelow, TwoInputs, TwoWhole}
+use Rattle.labsys.specs.Clauses.{status_of, HasAllCalls, OnWhole, PlayedTaken, Reports, reports, if_used, reports_used, Moved, run_of, WhereReported, WhereAccepted, TakesAtMost, Covered, RepliesFirst, Printed, Dropped, Written, Isolated, IsolatedWhole, SameBelow, TwoInputs, TwoWhole}
 use Rattle.lab_engine.proofs.Sending.{out_of-append, out_of-to_out, trail_of-append, trail_of-to_out, prefix_of}
 use Rattle.lab_engine.proofs.ViewLemmas.{view_alone}
 use Rattle.labsys.proofs.Coverage.{records_alone, replies_alone, session_out, session_trail, covered, replies_first, recorded}
@@ -194,6 +199,7 @@ only_play Check is = absurd (cc)
 only_play (Gen n) is = absurd (cc)
 only_play (Drill n) is = absurd (cc)
 only_play (View word) is = absurd (cc)
+only_play Upgrade is = absurd (cc)
 
 only_done : (r : Result InputEnd Fault) → status_of r ≡ Done → r ≡ Ok Whole
 only_done (Ok Whole) is = refl
@@ -287,15 +293,16 @@ did_used : (c : Command) (r : Result InputEnd Fault) (l l' : Option (List ℕ)) 
 did_used Play r l l' e e' x = x
 did_used Check r l l' e e' x = record { taken = x.taken; took = x.took; few = x.few; writes = writes_out r _ e e' x.writes; status = x.status; to_the_end = x.to_the_end; by_line = λ play. absurd (cc) }
 did_used (View word) r l l' e e' x = record { taken = x.taken; took = x.took; few = x.few; writes = writes_out r _ e e' x.writes; status = x.status; to_the_end = x.to_the_end; by_line = λ play. absurd (cc) }
+did_used Upgrade r l l' e e' x = record { taken = x.taken; took = x.took; few = x.few; writes = writes_out r _ e e' x.writes; status = x.status; to_the_end = x.to_the_end; by_line = λ play. absurd (cc) }
 did_used (Gen n) r l l' e e' x = record { taken = []; took = Consumes-nil (Some []); few = omega arith; writes = writes_out r _ e e' x.writes; status = x.status; to_the_end = λ reads. absurd (cc); by_line = λ play. absurd (cc) }
 did_used (Drill n) r l l' e e' x = record { taken = []; took = Consumes-nil (Some []); few = omega arith; writes = writes_out r _ e e' x.writes; status = x.status; to_the_end = λ reads. absurd (cc); by_line = λ play. absurd (cc) }
 
 module _ (c : Command) (r : Result InputEnd Fault) (l l' : Option (List ℕ)) (entry exit : Ends) (x : CommandDid c r l l' entry exit) where
   abbrev old_used : Command → Reports
-  old_used command = used command (reports l entry.out.held entry.trail.held)
+  old_used command = reports_used command (reports l entry.out.held entry.trail.held)
 
   abbrev now_used : Command → Reports
-  now_used command = used command (reports l' exit.out.held exit.trail.held)
+  now_used command = reports_used command (reports l' exit.out.held exit.trail.held)
 
   pub run_order : (o : Option Command) → o ≡ Some c → IfSome o (λ command. WhereReported (old_used command) (now_used command) (λ text out trail. IsInOrder (due command text).order out trail))
   run_order o is = of_command o c (λ command. WhereReported (old_used command) (now_used command) (λ text out trail. IsInOrder (due command text).order out trail)) is
@@ -409,11 +416,11 @@ viewed word text k a is named =
 
 -- where nothing crosses, it is a view of the part below the label alone
 run_view_alone : (word : List ℕ) (r : Result InputEnd Fault) (l l' : Option (List ℕ)) (entry exit : Ends) → CommandDid (View word) r l l' entry exit → (s : Status) → s ≡ status_of r → s ≡ Done → (k : Label)
-    → WhereReported (used (View word) (reports l entry.out.held entry.trail.held)) (used (View word) (reports l' exit.out.held exit.trail.held))
+    → WhereReported (reports_used (View word) (reports l entry.out.held entry.trail.held)) (reports_used (View word) (reports l' exit.out.held exit.trail.held))
     (λ text out trail. WhereAccepted text (λ a m. parse_label a.policy word ≡ Some k → up_to k (run_of a m) ≡ run_of a m → out ≡ view_text k (session_alone k a m)))
 run_view_alone word r l l' entry exit x s is done k =
-    let old = used (View word) (reports l entry.out.held entry.trail.held) in
-    let now = used (View word) (reports l' exit.out.held exit.trail.held) in
+    let old = reports_used (View word) (reports l entry.out.held entry.trail.held) in
+    let now = reports_used (View word) (reports l' exit.out.held exit.trail.held) in
     let all : WhereReported old now (λ text out trail. (out ≡ out_of (due (View word) text).order) × (trail ≡ trail_of (due (View word) text).order)) =
     subst (λ z. OnWhole z (WhereReported old now (λ text out trail. (out ≡ out_of (due (View word) text).order) × (trail ≡ trail_of (due (View word) text).order)))) done (run_all (View word) r _ _ _ _ (did_used (View word) r l l' entry exit x) s is) in
     reported_gives old now _ _ (λ text out trail w a acc named none.
@@ -424,3 +431,59 @@ run_view_alone word r l l' entry exit x s is done k =
 pub run_view : (word : List ℕ) (r : Result InputEnd Fault) (l l' : Option (List ℕ)) (entry exit : Ends) → CommandDid (View word) r l l' entry exit → (s : Status) → s ≡ status_of r
     → Views word s (reports l entry.out.held entry.trail.held) (reports l' exit.out.held exit.trail.held)
 run_view word r l l' entry exit x s is = record { view_alone = λ k done. run_view_alone word r l l' entry exit x s is done k }
+
+-- ---- what `upgrade` did
+
+-- words that name a command and are those of `upgrade` name that
+pub is_upgrade : (o : Option Command) (c : Command) → o ≡ Some c → o ≡ Some Upgrade → c ≡ Upgrade
+is_upgrade o c is upgrade = let same : Some c ≡ Some Upgrade = sym is ∙ upgrade in cc
+
+pub as_upgrade : (c : Command) (r : Result InputEnd Fault) (l l' : Option (List ℕ)) (entry exit : Ends) → c ≡ Upgrade → CommandDid c r l l' entry exit → CommandDid Upgrade r l l' entry exit
+as_upgrade c r l l' entry exit is x = subst (λ (k : Command). CommandDid k r l l' entry exit) is x
+
+ends_whole : (e : InputEnd) → Done ≡ ends_with e → e ≡ Whole
+ends_whole Whole is = refl
+ends_whole (IsRefused n part why) is = absurd (cc)
+ends_whole TooMuch is = absurd (cc)
+
+-- what holds where a run succeeded holds of one that is done
+where_done : (r : Result InputEnd Fault) (P : Type 0) → Done ≡ status_of r → IfOk r (λ e. P) → P
+where_done (Ok e) P is p = p
+where_done (Err Read) P is p = absurd (cc)
+where_done (Err Write) P is p = absurd (cc)
+where_done (Err Trail) P is p = absurd (cc)
+where_done (Err Memory) P is p = absurd (cc)
+
+-- what an upgrade wrote of an accepted world whose script is whole
+text_upgraded : (i : UpgradeInput) (a : Accepted) → i.accepted ≡ Some a → i.script.ending ≡ Whole → out_of (order_of_upgrade i) ≡ text_of_world a ++ i.script.text
+text_upgraded i a is whole =
+    out_of-to_out (upgrade_text i.accepted i.script)
+    ∙ ap (λ (w : Option Accepted). upgrade_text w i.script) is
+    ∙ ap (λ e. text_of_world a ++ (i.script.text ++ unless_whole e)) whole
+    ∙ ap (λ (t : List ℕ). text_of_world a ++ t) (append-nil i.script.text)
+
+-- all that `upgrade` promises, where the text of the world is read as the same world
+pub run_upgrade : (r : Result InputEnd Fault) (l l' : Option (List ℕ)) (entry exit : Ends) → CommandDid Upgrade r l l' entry exit → (s : Status) → s ≡ status_of r
+    → ((text : List ℕ) → l ≡ Some text → IfOk r (λ _. WorldReadsBack (upgrade_of text)))
+    → Upgrades s (reports l entry.out.held entry.trail.held) (reports l' exit.out.held exit.trail.held)
+run_upgrade r l l' entry exit x s is back = record { upgraded = upgraded_by }
+  where
+    upgraded_by : s ≡ Done → WhereReported (reports_used Upgrade (reports l entry.out.held entry.trail.held)) (reports_used Upgrade (reports l' exit.out.held exit.trail.held)) (λ text out trail. UpgradedTo text out)
+    upgraded_by done text before above el eo et =
+        let all = subst (λ z. OnWhole z (WhereReported (reports_used Upgrade (reports l entry.out.held entry.trail.held)) (reports_used Upgrade (reports l' exit.out.held exit.trail.held)) (λ text out trail. (out ≡ out_of (due Upgrade text).order) × (trail ≡ trail_of (due Upgrade text).order)))) done (run_all Upgrade r _ _ _ _ (did_used Upgrade r l l' entry exit x) s is) in
+        let ends = subst (λ z. OnWhole z ((text : List ℕ) → if_used (reads_source Upgrade) l ≡ Some text → z ≡ (due Upgrade text).status)) done (ends_by Upgrade r _ _ _ _ (did_used Upgrade r l l' entry exit x) s is) in
+        let m = all text before above el eo et in
+        let i = upgrade_of text in
+        let whole : i.script.ending ≡ Whole = ends_whole i.script.ending (ends text el) in
+        let read = where_done r (WorldReadsBack i) (sym done ∙ is) (back text el) in
+        record {
+          taken = m.taken;
+          rest = m.rest;
+          out = m.out;
+          trail = m.trail;
+          text_is = m.text_is;
+          left_is = m.left_is;
+          out_is = m.out_is;
+          trail_is = m.trail_is;
+          holds = upgraded text m.out whole (λ a accepted. (read a accepted, m.holds.0 ∙ text_upgraded i a accepted whole));
+        }

@@ -14,7 +14,7 @@ use Rattle.gen_world.specs.declared.generator.TheConstants.{MAX_LINES}
 use Rattle.lab_text.specs.Names.{same_bytes}
 use Rattle.lab_usage.specs.Words.{Given, given_by, given_words, is_argument}
 use Rattle.labsys.specs.declared.command.Command.{Command}
-use Rattle.labsys.specs.declared.command.Command.TheVariants.{Check, Play, Gen, Drill, View}
+use Rattle.labsys.specs.declared.command.Command.TheVariants.{Check, Play, Gen, Drill, View, Upgrade}
 use Rattle.labsys.specs.Commands.{FitsCommand, command_alone, command_of, command_with, lines_of}
 
 lines_fit : (word : List ℕ) (o : Option ℕ) → lines_of word ≡ o → IfSome o (λ n. (1 ≤ n) × (n ≤ MAX_LINES))
@@ -53,7 +53,7 @@ other_word word known e f = go (same_bytes word known) refl
     go false same = refl
 
 alone_none : (word : List ℕ) → is_argument word ≡ false → command_alone word ≡ None
-alone_none word e = ap (λ (t : Bool). keep_if t Check) (other_word word (codes "check") e refl)
+alone_none word e = rw (other_word word (codes "check") e refl, other_word word (codes "upgrade") e refl) refl
 
 with_none : (word argument : List ℕ) → is_argument word ≡ false → command_with word argument ≡ None
 with_none word argument e =
@@ -131,10 +131,11 @@ named words o g word argument is some e f = ap₂ command_given e f ∙ (ap name
 -- a command that words name can be performed
 pub words_fit : (words : List (String Global)) (o : Option Command) → o ≡ command_of words → IfSome o FitsCommand
 words_fit [] o is = subst (λ (x : Option Command). IfSome x FitsCommand) (sym is) tt
-words_fit (word ∷ []) o is = subst (λ (x : Option Command). IfSome x FitsCommand) (sym is) (by_check (same_bytes (string_bytes word) (codes "check")))
+words_fit (word ∷ []) o is = subst (λ (x : Option Command). IfSome x FitsCommand) (sym is) (by_word (same_bytes (string_bytes word) (codes "check")) (same_bytes (string_bytes word) (codes "upgrade")))
   where
-    by_check : (t : Bool) → IfSome (keep_if t Check) FitsCommand
-    by_check true = tt
-    by_check false = tt
+    by_word : (checks upgrades : Bool) → IfSome (cond checks (Some Check) (keep_if upgrades Upgrade)) FitsCommand
+    by_word true upgrades = tt
+    by_word false true = tt
+    by_word false false = tt
 words_fit (word ∷ argument ∷ []) o is = command_fits (string_bytes word) (string_bytes argument) o is
 words_fit (word ∷ argument ∷ third ∷ rest) o is = subst (λ (x : Option Command). IfSome x FitsCommand) (sym is) tt

@@ -16,6 +16,7 @@ use Rattle.lab_engine.specs.declared.reporting.Tally.{Tally}
 use Rattle.lab_engine.specs.Counting.{CountsCalls}
 use Rattle.lab_engine.specs.Input.{Accepted, Input, Script, input_of, no_world}
 use Rattle.lab_engine.specs.Opening.{OpensInput}
+use Rattle.world_text.specs.declared.format.Format.TheVariants.{Two}
 use Rattle.lab_engine.specs.Reading.{left_of}
 use Rattle.lab_engine.specs.Report.{empty_tally, tally_of}
 use Rattle.lab_engine.specs.Session.{session_of}
@@ -30,11 +31,11 @@ line_is n a s first s' m t did living is =
     ap (λ k. tally_text n t k) (is ∙ ap (λ (x : State). length (map.keys x.procs)) (did.state ∙ ap (λ (x : State). state_after_run x m.items) first))
     ∙ ap (λ (k : Tally). tally_text n k (length (map.keys (state_after_run (boot a.world) m.items).procs))) (did.tally ∙ ap (λ (x : State). tally_of empty_tally (run x m.items)) first)
 
-module _ (x : Opened) (left between : Option (List ℕ)) (opens : OpensInput (Ok x) left between) (n : ℕ) (is_left : left ≡ Some (gen_text n)) where
+module _ (x : Opened) (left between : Option (List ℕ)) (opens : OpensInput Two (Ok x) left between) (n : ℕ) (is_left : left ≡ Some (gen_text n)) where
   -- the line of the generated input is that of the world that was read from it
   pub drilled : (w : OpenedWorld) → x ≡ opened.World w → (left' : Option (List ℕ)) (text : List ℕ) → DrillsWorld text n w.read w.lines between left' → text ≡ drilled_text n
   drilled w is left' text did =
-      let world = subst (λ k. OpensInput (Ok k) left between) is opens in
+      let world = subst (λ k. OpensInput Two (Ok k) left between) is opens in
       let rest = did.reads.taken ++ left_of left' in
       let all = Consumes-trans left between left' world.taken did.reads.taken world.took did.reads.took in
       let text_is : gen_text n ≡ world.taken ++ rest = text_left left left' (world.taken ++ did.reads.taken) (gen_text n) is_left all ∙ append_assoc world.taken did.reads.taken (left_of left') in
@@ -43,7 +44,7 @@ module _ (x : Opened) (left between : Option (List ℕ)) (opens : OpensInput (Ok
   -- it does not end before its world does
   pub never_ends : n ≤ MAX_LINES → (ending : InputEnd) → x ≡ opened.Ended ending → ⊥
   never_ends few ending is =
-      let ended = subst (λ k. OpensInput (Ok k) left between) is opens in
+      let ended = subst (λ k. OpensInput Two (Ok k) left between) is opens in
       let none : input_of (gen_text n) ≡ no_world ending = ap input_of (text_left left between ended.taken (gen_text n) is_left ended.took) ∙ ended.shows.says in
       let whole = generated_is_whole n few in
       let no : None ≡ Some whole.world = sym (ap (λ (i : Input). i.accepted) none) ∙ whole.accepted in

@@ -5,14 +5,17 @@ use Rattle.std.specs.Prelude.{Option, None, Some}
 use Rattle.std.specs.Io.KnownBytes.{Consumes}
 use Rattle.io_ends.specs.LinesState.{LinesState, may_take}
 use Rattle.lab_engine.specs.declared.ending.InputEnd.{InputEnd}
-use Rattle.lab_engine.specs.Input.{Accepted, Input, input_of, no_world}
+use Rattle.lab_engine.specs.Input.{Accepted, Input, input_in, no_world}
+use Rattle.lab_engine.specs.UpgradeInput.{kept_script, upgrade_in}
+use Rattle.world_text.specs.declared.format.Format.{Format}
+use Rattle.world_text.specs.declared.format.Format.TheVariants.{One, Two}
 use Rattle.lab_engine.specs.Order.{Sent, calls_by, order_by, order_of, order_of_calls, to_out}
 use Rattle.lab_engine.specs.Reading.{Takes, left_of}
 use Rattle.lab_engine.specs.Texts.{last_text}
 use Rattle.labsys.specs.declared.command.Command.{Command}
-use Rattle.labsys.specs.declared.command.Command.TheVariants.{Play, Check, Gen, Drill, View}
+use Rattle.labsys.specs.declared.command.Command.TheVariants.{Play, Check, Gen, Drill, View, Upgrade}
 use Rattle.labsys.specs.Clauses.{TakesAtMost}
-use Rattle.labsys.specs.Commands.{due, due_of_check, due_of_play, due_of_view, ends_with, reads_source}
+use Rattle.labsys.specs.Commands.{due, due_of_check, due_of_play, due_of_upgrade, due_of_view, ends_with, reads_source}
 
 -- ---- what a source has left
 
@@ -44,13 +47,20 @@ without_world : (e : InputEnd) → to_out (last_text 0 e) ≡ order_of (no_world
 unfolding order_by
 without_world e = refl
 
+-- the format of the input that a command reads
+abbrev pub format_of : Command → Format
+format_of Upgrade = One
+format_of _ = Two
+
 -- what is due of a command that reads the source is then the last line
-pub due_without_world : (c : Command) → reads_source c ≡ true → (text : List ℕ) (e : InputEnd) → input_of text ≡ no_world e → due c text ≡ record { order = to_out (last_text 0 e); status = ends_with e }
-due_without_world Play reads text e is = ap due_of_play is ∙ ap (λ (o : List Sent). record { order = o; status = ends_with e }) (sym (without_world e))
-due_without_world Check reads text e is = ap due_of_check is
-due_without_world (Gen n) reads text e is = absurd (cc)
-due_without_world (Drill n) reads text e is = absurd (cc)
-due_without_world (View word) reads text e is = ap (due_of_view word) is
+pub due_without_world : (c : Command) → reads_source c ≡ true → (text : List ℕ) (e : InputEnd) → input_in (format_of c) text ≡ no_world e → upgrade_in (format_of c) text ≡ record { accepted = None; script = kept_script [] e }
+    → due c text ≡ record { order = to_out (last_text 0 e); status = ends_with e }
+due_without_world Play reads text e is kept = ap due_of_play is ∙ ap (λ (o : List Sent). record { order = o; status = ends_with e }) (sym (without_world e))
+due_without_world Check reads text e is kept = ap due_of_check is
+due_without_world (Gen n) reads text e is kept = absurd (cc)
+due_without_world (Drill n) reads text e is kept = absurd (cc)
+due_without_world (View word) reads text e is kept = ap (due_of_view word) is
+due_without_world Upgrade reads text e is kept = ap due_of_upgrade kept
 
 pub no_calls : (i : Input) → i.accepted ≡ None → order_of_calls i ≡ []
 unfolding calls_by

@@ -3,7 +3,7 @@ use Rattle.std.proofs.Common.{◌≡◌, ℕ, ◌+◌, ◌≤◌, ◌<◌, true,
 use Rattle.std.proofs.lemmas.List.{append-nil, length-append}
 use Rattle.lab_lattice.specs.Label.{Label}
 use Rattle.kern_model.specs.Run.{CallRecord}
-use Rattle.kern_model.specs.Isolation.{answers, alone, crossing, up_to}
+use Rattle.kern_model.specs.Isolation.{answers, alone, any_crosses, up_to}
 use Rattle.kern_model.specs.Prefixes.{IsPrefix, Agree}
 use Rattle.iso_laws.proofs.Laws.{isolated_prefix, isolated_whole, two_worlds_agree, two_worlds_same}
 use Rattle.lab_engine.specs.Input.{Accepted, Script}
@@ -59,7 +59,7 @@ pub take_up_to : (l : Label) (m : ℕ) (ps : List CallRecord) → m ≤ length (
 take_up_to l zero ps le = refl
 take_up_to l (suc m) [] le = refl
 take_up_to l (suc m) (p ∷ ps) le =
-    elim (crossing l p.recs) as (λ b. suc m ≤ length (cond b [] (p ∷ up_to l ps)) → p ∷ take m ps ≡ take (suc m) (cond b [] (p ∷ up_to l ps))) [
+    elim (any_crosses l p.recs) as (λ b. suc m ≤ length (cond b [] (p ∷ up_to l ps)) → p ∷ take m ps ≡ take (suc m) (cond b [] (p ∷ up_to l ps))) [
       | true ↦ λ le. absurd (omega arith)
       | false ↦ λ le. let less : m ≤ length (up_to l ps) = omega arith in ap (λ (r : List CallRecord). p ∷ r) (take_up_to l m ps less)
     ] le

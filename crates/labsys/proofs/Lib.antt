@@ -10,6 +10,7 @@ pub mod ReadableLemmas
 pub mod PlayLemmas
 pub mod SessionLemmas
 pub mod CheckLemmas
+pub mod UpgradedLemmas
 pub mod ViewedLemmas
 pub mod DrillLemmas
 pub mod PerformLemmas

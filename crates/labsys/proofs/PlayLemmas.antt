@@ -27,7 +27,7 @@ use Rattle.lab_engine.specs.declared.playing.Played.{Played}
 use Rattle.lab_engine.specs.declared.reporting.Report.{Report}
 use Rattle.lab_engine.specs.declared.reporting.Report.TheVariants.{All}
 use Rattle.lab_engine.specs.Counts.{Counts, counts, counted_by}
-use Rattle.lab_engine.specs.Input.{Accepted, Input, Script, input_of}
+use Rattle.lab_engine.specs.Input.{Accepted, Input, Script, input_in, input_of}
 use Rattle.lab_engine.specs.Opening.{OpensInput}
 use Rattle.lab_engine.specs.Order.{Sent, calls_by, call_order, order_before_end, order_by, order_of_calls, out_of, session_order, to_out, to_trail, trail_of}
 use Rattle.lab_engine.specs.Playing.{Ends, ends, PlaysAll, Sends, SendsAll, SendsPrefix, StopsBy, StopsIn, Writes, items_order}
@@ -41,14 +41,17 @@ use Rattle.lab_engine.proofs.ReadableLemmas.{with_numbers}
 use Rattle.lab_engine.proofs.ReportLemmas.{all_reported}
 use Rattle.lab_engine.proofs.Sending.{goes_on, in_order, out_of_memory, passes_on, prefix_after, prefix_longer, prefix_nothing, sends_more, stops_after, stops_longer}
 use Rattle.labsys.specs.declared.command.Command.{Command}
-use Rattle.labsys.specs.declared.command.Command.TheVariants.{Play, Check, View}
+use Rattle.labsys.specs.declared.command.Command.TheVariants.{Play, Check, View, Upgrade}
 use Rattle.labsys.specs.Clauses.{TakesAtMost}
-use Rattle.labsys.specs.Commands.{Due, due, due_of_check, due_of_play, due_of_view, ends_with, reads_source}
-use Rattle.labsys.specs.Playing.{ChecksWorld, CommandDid, EndsAs, PlaysWorld, ViewsWorld}
+use Rattle.labsys.specs.Commands.{Due, due, due_of_check, due_of_play, due_of_upgrade, due_of_view, ends_with, reads_source}
+use Rattle.labsys.specs.Playing.{ChecksWorld, CommandDid, EndsAs, PlaysWorld, UpgradesWorld, ViewsWorld}
 use Rattle.labsys.specs.Readable.{InputReadable, SessionReadable}
 use Rattle.lab_text.specs.Text.{parse_label}
+use Rattle.lab_engine.specs.UpgradeInput.{upgrade_at, upgrade_in, upgrade_of}
+use Rattle.world_text.specs.declared.format.Format.{Format}
+use Rattle.world_text.specs.declared.format.Format.TheVariants.{One, Two}
 use Rattle.labsys.proofs.AcceptedLemmas.{IsPlayable, accepted_input}
-use Rattle.labsys.proofs.InputLemmas.{due_without_world, no_calls, reads_nothing, reads_within, text_left}
+use Rattle.labsys.proofs.InputLemmas.{due_without_world, format_of, no_calls, reads_nothing, reads_within, text_left}
 use Rattle.labsys.proofs.ReadableLemmas.{input_played, input_without_world}
 
 -- ---- a run that failed
@@ -189,32 +192,87 @@ module _ (a : Accepted) (recs : List Rec) (recs_are : recs ≡ boot_recs a.world
 -- ---- an input that was opened
 
 -- memory ran out, or a read failed, before a world was read
-pub open_fails : (c : Command) (r : Result InputEnd Fault) (fault : Fault) (left left' : Option (List ℕ)) → OpensInput (Err fault) left left' → (n n' : ℕ) (o t : SinkView) → counts n' o.faults t.faults ≡ counted_by fault (counts n o.faults t.faults) → IsErrAnd r (λ q. q ≡ fault)
-    → CommandDid c r left left' (ends n o t) (ends n' o t)
-open_fails c r fault left left' opens n n' o t once is = record {
+pub open_fails : {format : Format} (c : Command) (r : Result InputEnd Fault) (fault : Fault) (left left' : Option (List ℕ)) → OpensInput format (Err fault) left left' → (n n' : ℕ) (o t : SinkView) → counts n' o.faults t.faults ≡ counted_by fault (counts n o.faults t.faults) → IsErrAnd r (λ q. q ≡ fault)
+    → format_of c ≡ format → CommandDid c r left left' (ends n o t) (ends n' o t)
+open_fails c r fault left left' opens n n' o t once is same = record {
   taken = opens.taken;
   took = opens.took;
   few = opens.few;
   writes = passes_on r fault _ (ends n o t) (ends n' o t) (record { sends = prefix_nothing _ n n' o t; one_fault = once }) is;
   status = failed_ending r fault is _;
   to_the_end = λ _. failed_ending r fault is _;
-  by_line = λ _ read. subst (λ (o' : List Sent). Sends o' (ends n o t) (ends n' o t)) (sym (no_calls (input_of opens.taken) (opens.shows (failed_read r fault is read)))) (nothing_sent n n' o t);
+  by_line = λ play read.
+      let none = subst (λ (f : Format). (input_in f opens.taken).accepted ≡ None) (sym same ∙ ap format_of play) (opens.shows (failed_read r fault is read)) in
+      subst (λ (o' : List Sent). Sends o' (ends n o t) (ends n' o t)) (sym (no_calls (input_of opens.taken) none)) (nothing_sent n n' o t);
 }
 
-module _ (x : Opened) (left between : Option (List ℕ)) (opens : OpensInput (Ok x) left between) where
+-- an input of this format
+module _ {format : Format} (x : Opened) (left between : Option (List ℕ)) (opens : OpensInput format (Ok x) left between) where
   -- it has a world
   module _ (w : OpenedWorld) (is : x ≡ opened.World w) where
-    abbrev world : OpensInput (Ok (opened.World w)) left between
-    world = subst (λ k. OpensInput (Ok k) left between) is opens
+    abbrev begun : OpensInput format (Ok (opened.World w)) left between
+    begun = subst (λ k. OpensInput format (Ok k) left between) is opens
+
+    pub opened_more : w.lines.more ≡ true
+    opened_more = begun.shows.more
+
+    pub opened_small : w.lines.room ≤ 2 ^ 24
+    opened_small = begun.shows.small
+
+    -- of which these bytes were read further
+    module _ (r : Result InputEnd Fault) (left' : Option (List ℕ)) (n n' : ℕ) (o t : SinkView) (still : (u v : ℕ) → counts n' u v ≡ counts n u v) (after : Ends) (reads : TakesAtMost (may_take w.lines) between left') where
+      abbrev all : List ℕ
+      all = begun.taken ++ reads.taken
+
+      -- what a command did that wrote what is due of it
+      did_all : (c : Command) (d : Due) → due c (all ++ left_of left') ≡ d → Writes r d.order (ends n' o t) after → IfOk r (λ e. ends_with e ≡ d.status) → IfOk r (λ e. e ≡ AllRead → IsAtEnd left')
+          → (c ≡ Play → r ≡ Err Read → Sends (order_of_calls (input_of all)) (ends n o t) after) → CommandDid c r left left' (ends n o t) after
+      did_all c d same writes status to_the_end by_line = record {
+        taken = all;
+        took = Consumes-trans left between left' begun.taken reads.taken begun.took reads.took;
+        few = omega (arith, begun.shows.within, reads.few, length-append begun.taken reads.taken);
+        writes = subst (λ k. Writes r (due c (all ++ left_of left')).order (ends k o t) after) (ap (λ (c : Counts). c.source) (still 0 0))
+            (in_order r _ _ (ends n' o t) after (sym (ap (λ (d : Due). d.order) same)) writes);
+        status = IfOk-weaker r _ _ (λ e is. is ∙ sym (ap (λ (d : Due). d.status) same)) status;
+        to_the_end = λ _. to_the_end;
+        by_line = by_line;
+      }
+
+  -- it ended before its world did
+  module _ (ending : InputEnd) (is : x ≡ opened.Ended ending) where
+    abbrev ended : OpensInput format (Ok (opened.Ended ending)) left between
+    ended = subst (λ k. OpensInput format (Ok k) left between) is opens
+
+    pub ended_writes : (c : Command) → reads_source c ≡ true → format_of c ≡ format → (r : Result InputEnd Fault) (n n' : ℕ) (o o' t : SinkView) → ((u v : ℕ) → counts n' u v ≡ counts n u v) → ((source : ℕ) (trail : SinkView) → Writes r (to_out (last_text 0 ending)) (ends source o trail) (ends source o' trail)) → IfOk r (λ e. e ≡ ending)
+        → CommandDid c r left between (ends n o t) (ends n' o' t)
+    ended_writes c reads same r n n' o o' t still writes is =
+        let text = ended.taken ++ left_of between in
+        let is_due : due c text ≡ record { order = to_out (last_text 0 ending); status = ends_with ending } =
+        due_without_world c reads text ending (ap (λ (f : Format). input_in f text) same ∙ ended.shows.says) (ap (λ (f : Format). upgrade_in f text) same ∙ ended.shows.keeps) in
+        record {
+          taken = ended.taken;
+          took = ended.took;
+          few = ended.few;
+          writes = subst (λ k. Writes r (due c text).order (ends k o t) (ends n' o' t)) (ap (λ (c : Counts). c.source) (still 0 0))
+              (in_order r _ _ (ends n' o t) (ends n' o' t) (sym (ap (λ (d : Due). d.order) is_due)) (writes n' t));
+          status = IfOk-weaker r _ _ (λ e same. ap ends_with same ∙ sym (ap (λ (d : Due). d.status) is_due)) is;
+          to_the_end = λ _. IfOk-weaker r _ _ (λ e same whole. ended.shows.to_the_end (sym same ∙ whole)) is;
+          by_line = λ _ read. absurd (no_read r (to_out (last_text 0 ending)) o o' (writes 0 t) read);
+        }
+      where
+        no_read : (y : Result InputEnd Fault) (order : List Sent) (o o' : SinkView) → Writes y order (ends 0 o t) (ends 0 o' t) → y ≡ Err Read → ⊥
+        no_read (Ok e) order o o' w read = absurd (cc)
+        no_read (Err fault) order o o' w read = let same : fault ≡ Read = cc in not_a_read fault order o o' t t w same
+
+-- an input of today's format
+module _ (x : Opened) (left between : Option (List ℕ)) (opens : OpensInput Two (Ok x) left between) where
+  -- it has a world
+  module _ (w : OpenedWorld) (is : x ≡ opened.World w) where
+    abbrev world : OpensInput Two (Ok (opened.World w)) left between
+    world = subst (λ k. OpensInput Two (Ok k) left between) is opens
 
     pub opened_playable : (s : Script) × IsPlayable w.read s
     opened_playable = (_, accepted_input (world.taken ++ []) w.read (ap (λ (i : Input). i.accepted) (world.shows.says [])))
-
-    pub opened_more : w.lines.more ≡ true
-    opened_more = world.shows.more
-
-    pub opened_small : w.lines.room ≤ 2 ^ 24
-    opened_small = world.shows.small
 
     -- of which these bytes were read further
     module _ (r : Result InputEnd Fault) (left' : Option (List ℕ)) (n n' : ℕ) (o t : SinkView) (still : (u v : ℕ) → counts n' u v ≡ counts n u v) (after : Ends) where
@@ -239,18 +297,9 @@ module _ (x : Opened) (left between : Option (List ℕ)) (opens : OpensInput (Ok
         goes_on_by : (c : Command) (meaning : Input → Due) → ((text : List ℕ) → due c text ≡ meaning (input_of text)) → Writes r (meaning whole).order (ends n' o t) after → IfOk r (λ e. ends_with e ≡ (meaning whole).status)
             → IfOk r (λ e. e ≡ AllRead → IsAtEnd left') → (c ≡ Play → r ≡ Err Read → Sends (calls_by (Some w.read) (script_at w.read.policy w.lines reads.taken)) (ends n' o t) after) → CommandDid c r left left' (ends n o t) after
         goes_on_by c meaning means writes status to_the_end by_line =
-            let same : due c (taken ++ left_of left') ≡ meaning whole = means (taken ++ left_of left') ∙ ap meaning (text_is (left_of left')) in
-            record {
-              taken = taken;
-              took = all_taken;
-              few = omega (arith, world.shows.within, reads.few, length-append world.taken reads.taken);
-              writes = subst (λ k. Writes r (due c (taken ++ left_of left')).order (ends k o t) after) source_is
-                  (in_order r _ _ (ends n' o t) after (sym (ap (λ (d : Due). d.order) same)) writes);
-              status = IfOk-weaker r _ _ (λ e is. is ∙ sym (ap (λ (d : Due). d.status) same)) status;
-              to_the_end = λ _. to_the_end;
-              by_line = λ play read. subst (λ (order : List Sent). Sends order (ends n o t) after) (sym (ap order_of_calls (world.shows.says reads.taken)))
-                  (subst (λ k. Sends (calls_by (Some w.read) (script_at w.read.policy w.lines reads.taken)) (ends k o t) after) source_is (by_line play read));
-            }
+            did_all x left between opens w is r left' n n' o t still after reads c (meaning whole) (means (taken ++ left_of left') ∙ ap meaning (text_is (left_of left'))) writes status to_the_end
+            (λ play read. subst (λ (order : List Sent). Sends order (ends n o t) after) (sym (ap order_of_calls (world.shows.says reads.taken)))
+            (subst (λ k. Sends (calls_by (Some w.read) (script_at w.read.policy w.lines reads.taken)) (ends k o t) after) source_is (by_line play read)))
 
       -- it was played
       module _ (did : PlaysWorld r w.read w.lines between left' (ends n' o t) after) where
@@ -271,33 +320,25 @@ module _ (x : Opened) (left between : Option (List ℕ)) (opens : OpensInput (Ok
       pub opened_views : (word : List ℕ) → ViewsWorld (parse_label w.read.policy word) r w.read w.lines between left' (ends n' o t) after → CommandDid (View word) r left left' (ends n o t) after
       opened_views word did = goes_on_by did.reads (View word) (due_of_view word) (λ text. refl) did.writes (IfOk-weaker r _ _ (λ e is. ap ends_with is.same) did.ending) (IfOk-weaker r _ _ (λ e is. is.to_the_end) did.ending) (λ play. absurd (cc))
 
-  -- it ended before its world did
+  -- it ended before its world did, and has no records
   module _ (ending : InputEnd) (is : x ≡ opened.Ended ending) where
-    abbrev ended : OpensInput (Ok (opened.Ended ending)) left between
-    ended = subst (λ k. OpensInput (Ok k) left between) is opens
+    abbrev none : OpensInput Two (Ok (opened.Ended ending)) left between
+    none = subst (λ k. OpensInput Two (Ok k) left between) is opens
 
-    pub ended_writes : (c : Command) → reads_source c ≡ true → (r : Result InputEnd Fault) (n n' : ℕ) (o o' t : SinkView) → ((u v : ℕ) → counts n' u v ≡ counts n u v) → ((source : ℕ) (trail : SinkView) → Writes r (to_out (last_text 0 ending)) (ends source o trail) (ends source o' trail)) → IfOk r (λ e. e ≡ ending)
-        → CommandDid c r left between (ends n o t) (ends n' o' t)
-    ended_writes c reads r n n' o o' t still writes is =
-        let text = ended.taken ++ left_of between in
-        let is_due : due c text ≡ record { order = to_out (last_text 0 ending); status = ends_with ending } = due_without_world c reads text ending ended.shows.says in
-        record {
-          taken = ended.taken;
-          took = ended.took;
-          few = ended.few;
-          writes = subst (λ k. Writes r (due c text).order (ends k o t) (ends n' o' t)) (ap (λ (c : Counts). c.source) (still 0 0))
-              (in_order r _ _ (ends n' o t) (ends n' o' t) (sym (ap (λ (d : Due). d.order) is_due)) (writes n' t));
-          status = IfOk-weaker r _ _ (λ e same. ap ends_with same ∙ sym (ap (λ (d : Due). d.status) is_due)) is;
-          to_the_end = λ _. IfOk-weaker r _ _ (λ e same whole. ended.shows.to_the_end (sym same ∙ whole)) is;
-          by_line = λ _ read. absurd (no_read r (to_out (last_text 0 ending)) o o' (writes 0 t) read);
-        }
-      where
-        no_read : (y : Result InputEnd Fault) (order : List Sent) (o o' : SinkView) → Writes y order (ends 0 o t) (ends 0 o' t) → y ≡ Err Read → ⊥
-        no_read (Ok e) order o o' w read = absurd (cc)
-        no_read (Err fault) order o o' w read = let same : fault ≡ Read = cc in not_a_read fault order o o' t t w same
-
-    -- it has no records
     pub ended_readable : (before after : Ends) (text : List ℕ) → left ≡ Some text → InputReadable (input_of text) before after
     ended_readable before after text is =
-        let same : text ≡ ended.taken ++ left_of between = text_left left between ended.taken text is ended.took in
-        input_without_world (input_of text) before after ending (ap input_of same ∙ ended.shows.says)
+        let same : text ≡ none.taken ++ left_of between = text_left left between none.taken text is none.took in
+        input_without_world (input_of text) before after ending (ap input_of same ∙ none.shows.says)
+
+-- an input of the old format
+module _ (x : Opened) (left between : Option (List ℕ)) (opens : OpensInput One (Ok x) left between) (w : OpenedWorld) (is : x ≡ opened.World w) where
+  abbrev old : OpensInput One (Ok (opened.World w)) left between
+  old = subst (λ k. OpensInput One (Ok k) left between) is opens
+
+  -- it was written in today's format
+  pub opened_upgrades : (r : Result InputEnd Fault) (left' : Option (List ℕ)) (n n' : ℕ) (o t : SinkView) → ((u v : ℕ) → counts n' u v ≡ counts n u v) → (after : Ends) → UpgradesWorld r w.read w.lines between left' (ends n' o t) after → CommandDid Upgrade r left left' (ends n o t) after
+  opened_upgrades r left' n n' o t still after did =
+      let rest = did.reads.taken ++ left_of left' in
+      let same = ap upgrade_of (append_assoc old.taken did.reads.taken (left_of left')) ∙ old.shows.keeps rest in
+      did_all x left between opens w is r left' n n' o t still after did.reads Upgrade (due_of_upgrade (record { accepted = Some w.read; script = upgrade_at w.read.policy w.lines rest })) (ap due_of_upgrade same)
+      did.writes (IfOk-weaker r _ _ (λ e is. ap ends_with is.same) did.ending) (IfOk-weaker r _ _ (λ e is. is.to_the_end) did.ending) (λ play. absurd (cc))

@@ -8,9 +8,9 @@ use Rattle.lab_engine.specs.Order.{IsInOrder}
 use Rattle.lab_engine.specs.Playing.{Ends, ends}
 use Rattle.lab_engine.proofs.Sending.{prefix_nothing, stops_at_once}
 use Rattle.labsys.specs.declared.command.Command.{Command}
-use Rattle.labsys.specs.declared.command.Command.TheVariants.{Play, Check, Gen, Drill, View}
+use Rattle.labsys.specs.declared.command.Command.TheVariants.{Play, Check, Gen, Drill, View, Upgrade}
 use Rattle.labsys.specs.declared.status.Status.TheVariants as status
-use Rattle.labsys.specs.Clauses.{WhereReported, reports, used}
+use Rattle.labsys.specs.Clauses.{WhereReported, reports, reports_used}
 use Rattle.labsys.specs.Commands.{LeavesAlone, due, reads_source}
 use Rattle.labsys.specs.Promises.{Plays}
 use Rattle.labsys.specs.Playing.{CommandDid}
@@ -29,6 +29,7 @@ untouched_alone (Some Check) source out trail s o t = t
 untouched_alone (Some (Gen n)) source out trail s o t = (s, t)
 untouched_alone (Some (Drill n)) source out trail s o t = (s, t)
 untouched_alone (Some (View word)) source out trail s o t = t
+untouched_alone (Some Upgrade) source out trail s o t = t
 
 -- a command for which memory runs out at once does nothing
 did_nothing : (c : Command) (l : Option (List ℕ)) (e : Ends) → CommandDid c (Err NoMemory) l l e e
@@ -54,7 +55,7 @@ module _ (l out trail : Option (List ℕ)) where
   abbrev still : Ends
   still = ends 0 (sink_view out 0) (sink_view trail 0)
 
-  pub untouched_order : (o : Option Command) → IfSome o (λ command. WhereReported (used command (reports l out trail)) (used command (reports l out trail)) (λ text out trail. IsInOrder (due command text).order out trail))
+  pub untouched_order : (o : Option Command) → IfSome o (λ command. WhereReported (reports_used command (reports l out trail)) (reports_used command (reports l out trail)) (λ text out trail. IsInOrder (due command text).order out trail))
   untouched_order None = tt
   untouched_order (Some c) = run_order c (Err NoMemory) l l still still (did_nothing c l still) (Some c) refl
 

@@ -37,8 +37,8 @@ abbrev pub reports : Option (List ℕ) → Option (List ℕ) → Option (List �
 reports left out trail = record { left = left; out = out; trail = trail }
 
 -- what the three ends report
-abbrev pub reported : SourceView → SinkView → SinkView → Reports
-reported source out trail = reports source.left out.held trail.held
+abbrev pub reports_of_ends : SourceView → SinkView → SinkView → Reports
+reports_of_ends source out trail = reports source.left out.held trail.held
 
 -- what an end reports, where one that is not used counts as one that holds nothing
 abbrev pub if_used : Bool → Option (List ℕ) → Option (List ℕ)
@@ -46,8 +46,8 @@ if_used true bytes = bytes
 if_used false bytes = Some []
 
 -- the same of the three ends, by which of them a command uses
-abbrev pub used : Command → Reports → Reports
-used command r = record { left = if_used (reads_source command) r.left; out = r.out; trail = if_used (writes_trail command) r.trail }
+abbrev pub reports_used : Command → Reports → Reports
+reports_used command r = record { left = if_used (reads_source command) r.left; out = r.out; trail = if_used (writes_trail command) r.trail }
 
 -- the first bytes of the text were taken, these were appended to what the output and the trail held, all three report it, and P holds of the text and of what was appended
 pub record Moved (text before above : List ℕ) (now : Reports) (P : List ℕ → List ℕ → List ℕ → Type 0) : Type 0 where

@@ -10,16 +10,18 @@ use Rattle.gen_world.specs.Text.{gen_text}
 use Rattle.lab_text.specs.Names.{same_bytes}
 use Rattle.lab_usage.specs.Words.{is_argument}
 use Rattle.labsys.specs.declared.command.Command.{Command}
-use Rattle.labsys.specs.declared.command.Command.TheVariants.{Play, Check, Gen, Drill, View}
+use Rattle.labsys.specs.declared.command.Command.TheVariants.{Play, Check, Gen, Drill, View, Upgrade}
 use Rattle.lab_engine.specs.declared.ending.InputEnd.{InputEnd}
 use Rattle.lab_engine.specs.declared.ending.InputEnd.TheVariants.{Whole, Refused as IsRefused, TooMuch}
 use Rattle.labsys.specs.Checking.{order_of_check}
 use Rattle.labsys.specs.Drilling.{drilled_text}
+use Rattle.labsys.specs.Upgrading.{order_of_upgrade}
 use Rattle.labsys.specs.Viewing.{ending_of_view, text_of_view}
 use Rattle.labsys.specs.declared.status.Status.{Status}
 use Rattle.labsys.specs.declared.status.Status.TheVariants.{Done, Refused, TooLong}
 use Rattle.lab_engine.specs.Input.{Input, input_of}
 use Rattle.lab_engine.specs.Order.{Sent, order_of, to_out}
+use Rattle.lab_engine.specs.UpgradeInput.{UpgradeInput, upgrade_of}
 
 -- ---- words
 
@@ -27,9 +29,9 @@ use Rattle.lab_engine.specs.Order.{Sent, order_of, to_out}
 abbrev pub lines_of : List ℕ → Option ℕ
 lines_of word = numeral 10 6 1 MAX_LINES word
 
--- the command that a word names without an argument: `check`
+-- the command that a word names without an argument: `check` or `upgrade`
 abbrev pub command_alone : List ℕ → Option Command
-command_alone word = keep_if (same_bytes word (codes "check")) Check
+command_alone word = cond (same_bytes word (codes "check")) (Some Check) (keep_if (same_bytes word (codes "upgrade")) Upgrade)
 
 -- the command that a word names with how many lines are asked for: `gen N` or `drill N`
 abbrev pub command_of_lines : List ℕ → List ℕ → Option Command
@@ -56,6 +58,7 @@ FitsCommand Check = Unit {0}
 FitsCommand (Gen n) = (1 ≤ n) × (n ≤ MAX_LINES)
 FitsCommand (Drill n) = (1 ≤ n) × (n ≤ MAX_LINES)
 FitsCommand (View word) = Unit {0}
+FitsCommand Upgrade = Unit {0}
 
 -- ---- what is due
 
@@ -82,6 +85,10 @@ due_of_check i = record { order = order_of_check i; status = ends_with i.script.
 abbrev pub due_of_view : List ℕ → Input → Due
 due_of_view word i = record { order = to_out (text_of_view word i.accepted i.script); status = ends_with (ending_of_view word i.accepted i.script.ending) }
 
+-- what is due of an input that is upgraded
+abbrev pub due_of_upgrade : UpgradeInput → Due
+due_of_upgrade i = record { order = order_of_upgrade i; status = ends_with i.script.ending }
+
 -- what is due of a command, by the bytes of the source
 abbrev pub due : Command → List ℕ → Due
 due Play text = due_of_play (input_of text)
@@ -89,6 +96,7 @@ due Check text = due_of_check (input_of text)
 due (Gen n) text = record { order = to_out (gen_text n); status = Done }
 due (Drill n) text = record { order = to_out (drilled_text n); status = Done }
 due (View word) text = due_of_view word (input_of text)
+due Upgrade text = due_of_upgrade (upgrade_of text)
 
 -- ---- the ends
 
@@ -99,6 +107,7 @@ reads_source Check = true
 reads_source (Gen n) = false
 reads_source (Drill n) = false
 reads_source (View word) = true
+reads_source Upgrade = true
 
 -- whether a command writes to the trail
 abbrev pub writes_trail : Command → Bool
@@ -107,6 +116,7 @@ writes_trail Check = false
 writes_trail (Gen n) = false
 writes_trail (Drill n) = false
 writes_trail (View word) = false
+writes_trail Upgrade = false
 
 -- which ends a command leaves as they were: without a command all of them
 abbrev pub LeavesAlone : Option Command → (source out trail : Type 0) → Type 0
@@ -116,3 +126,4 @@ LeavesAlone (Some Check) source out trail = trail
 LeavesAlone (Some (Gen n)) source out trail = source × trail
 LeavesAlone (Some (Drill n)) source out trail = source × trail
 LeavesAlone (Some (View word)) source out trail = trail
+LeavesAlone (Some Upgrade) source out trail = trail

@@ -1,5 +1,6 @@
 pub mod Checking
 pub mod Viewing
+pub mod Upgrading
 pub mod Drilling
 pub mod Commands
 pub mod Counts

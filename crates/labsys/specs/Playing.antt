@@ -12,6 +12,7 @@ use Rattle.lab_engine.specs.Input.{Accepted, input_of}
 use Rattle.lab_engine.specs.Order.{calls_by, order_by, order_of_calls, to_out}
 use Rattle.lab_engine.specs.Playing.{Ends, Sends, Writes}
 use Rattle.lab_engine.specs.Reading.{left_of, script_at}
+use Rattle.lab_engine.specs.UpgradeInput.{upgrade_at}
 use Rattle.labsys.specs.declared.command.Command.{Command}
 use Rattle.labsys.specs.declared.command.Command.TheVariants.{Play}
 use Rattle.labsys.specs.Checking.{check_text}
@@ -20,6 +21,7 @@ use Rattle.labsys.specs.Clauses.{TakesAtMost}
 use Rattle.labsys.specs.Drilling.{drill_text}
 use Rattle.labsys.specs.Commands.{due, ends_with, reads_source}
 use Rattle.labsys.specs.Readable.{SessionReadable}
+use Rattle.labsys.specs.Upgrading.{upgrade_text}
 use Rattle.labsys.specs.Viewing.{viewed_ending, viewed_text}
 
 -- how a run ended: as its input did, and where that was whole at the end of the source
@@ -51,6 +53,12 @@ pub record ChecksWorld (result : Result InputEnd Fault) (a : Accepted) (lines : 
   pub reads : TakesAtMost (may_take lines) left left'
   pub writes : Writes result (to_out (check_text (Some a) (script_at a.policy lines (reads.taken ++ left_of left')))) before after
   pub ending : IfOk result (λ e. EndsAs e (script_at a.policy lines (reads.taken ++ left_of left')).ending left')
+
+-- an accepted world was upgraded, and its script, by the bytes that were taken and are left
+pub record UpgradesWorld (result : Result InputEnd Fault) (a : Accepted) (lines : LinesState) (left left' : Option (List ℕ)) (before after : Ends) : Type 0 where
+  pub reads : TakesAtMost (may_take lines) left left'
+  pub writes : Writes result (to_out (upgrade_text (Some a) (upgrade_at a.policy lines (reads.taken ++ left_of left')))) before after
+  pub ending : IfOk result (λ e. EndsAs e (upgrade_at a.policy lines (reads.taken ++ left_of left')).ending left')
 
 -- what a view of an accepted world and its script writes was written, by the label that a word denotes and by the bytes that were taken and are left
 pub record ViewsWorld (o : Option Label) (result : Result InputEnd Fault) (a : Accepted) (lines : LinesState) (left left' : Option (List ℕ)) (before after : Ends) : Type 0 where

@@ -1,4 +1,4 @@
--- What `play` and `view` promise, where the ends that they use report their bytes.
+-- What `play`, `view` and `upgrade` promise, where the ends that they use report their bytes.
 use Rattle.std.specs.Prelude.{◌≡◌, ℕ, List, Some}
 use Rattle.lab_lattice.specs.Label.{Label}
 use Rattle.lab_text.specs.Text.{parse_label}
@@ -6,10 +6,11 @@ use Rattle.kern_model.specs.Isolation.{up_to}
 use Rattle.lab_engine.specs.Input.{Accepted, Script}
 use Rattle.lab_engine.specs.Session.{session_of}
 use Rattle.lab_engine.specs.Viewing.{session_alone, view_text}
-use Rattle.labsys.specs.declared.command.Command.TheVariants.{View}
+use Rattle.lab_engine.specs.Upgrading.{UpgradedTo}
+use Rattle.labsys.specs.declared.command.Command.TheVariants.{Upgrade, View}
 use Rattle.labsys.specs.declared.status.Status.{Status}
 use Rattle.labsys.specs.declared.status.Status.TheVariants.{Done, ReadFault}
-use Rattle.labsys.specs.Clauses.{Reports, used, run_of, OnWhole, WhereReported, WhereAccepted, PlayedTaken, Covered, RepliesFirst, Printed, Dropped, Isolated, IsolatedWhole, SameBelow, TwoInputs, TwoWhole}
+use Rattle.labsys.specs.Clauses.{Reports, reports_used, run_of, OnWhole, WhereReported, WhereAccepted, PlayedTaken, Covered, RepliesFirst, Printed, Dropped, Isolated, IsolatedWhole, SameBelow, TwoInputs, TwoWhole}
 use Rattle.labsys.specs.Lineage.{PrintedByAny}
 
 -- the world was accepted, and P holds of it, of its script, and of what the output and the trail got
@@ -46,5 +47,11 @@ pub record Plays (status : Status) (old now : Reports) : Type 0 where
 -- a run of `view` of a label's word, with this status
 pub record Views (word : List ℕ) (status : Status) (old now : Reports) : Type 0 where
   -- Where no record of the whole run crosses the label, `view` writes what it writes of the part below the label alone.
-  pub view_alone : (l : Label) → status ≡ Done → OnAccepted (used (View word) old) (used (View word) now)
+  pub view_alone : (l : Label) → status ≡ Done → OnAccepted (reports_used (View word) old) (reports_used (View word) now)
       (λ a script out trail. parse_label a.policy word ≡ Some l → up_to l (run_of a script) ≡ run_of a script → out ≡ view_text l (session_alone l a script))
+
+-- a run of `upgrade`, with this status
+pub record Upgrades (status : Status) (old now : Reports) : Type 0 where
+  -- The output is the canonical text of the world, and after it each line behind the line `script`, unchanged. Where no line is too long, nor the output as a
+  -- whole, it is the same input.
+  pub upgraded : status ≡ Done → WhereReported (reports_used Upgrade old) (reports_used Upgrade now) (λ text out trail. UpgradedTo text out)

@@ -15,6 +15,7 @@ use lab_engine::{
 };
 use line_text::LineWriter;
 use std::alloc::Global;
+use world_text::Format;
 
 // The line of an input that was read whole.
 #[tactic(auto, unfolding(crate::specs::Checking::ok_text))]
@@ -84,7 +85,7 @@ pub fn check<S: Source, K: Sink>(
         (ends (S.view source.old).faults (K.view out.old) trail)
         (ends (S.view source.new).faults (K.view out.new) trail) }
 {
-    match open_input(alloc, source)? {
+    match open_input(alloc, Format::Two, source)? {
         Opened::World(opened) => check_world(alloc, opened, source, out),
         Opened::Ended(ending) => end_without_world(alloc, ending, out),
     }

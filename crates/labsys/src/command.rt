@@ -52,6 +52,8 @@ pub enum Command<'a> {
     Drill(u32),
     /// `view LABEL` plays the world and the script that the source holds, and writes what the label sees of it.
     View(LabelWord<'a>),
+    /// `upgrade` reads the world and the script of the old format that the source holds, and writes them in the format of today.
+    Upgrade,
 }
 
 // How many lines a word asks for: 1 to 6 digits, of a value from 1 to 100,000.
@@ -66,7 +68,10 @@ fn lines_of(word: &[u8]) -> Option<u32>
 fn command_alone(word: &[u8]) -> Option<Command<'static>>
     ensures { result ≡ command_alone word.now }
 {
-    (word == b"check".as_slice()).then_some(Command::Check)
+    if word == b"check".as_slice() {
+        return Some(Command::Check);
+    }
+    (word == b"upgrade".as_slice()).then_some(Command::Upgrade)
 }
 
 // The command that a word names with how many lines are asked for.

@@ -15,7 +15,7 @@ use lab_engine::{
 };
 use line_text::LineWriter;
 use std::alloc::Global;
-use world_text::WorldText;
+use world_text::{Format, WorldText};
 
 // Appends a number after its word.
 fn put_count(line: &mut LineWriter, word: &[u8], count: u64) -> Result<(), NoMemory>
@@ -82,7 +82,7 @@ fn drill_generated(alloc: Global, number: u32) -> Result<Vec<u8>, Fault>
     ensures { IfOk result (λ text. text.items ≡ drilled_text number) }
 {
     let mut source = Generated::new(alloc, number);
-    match open_input(alloc, &mut source)? {
+    match open_input(alloc, Format::Two, &mut source)? {
         Opened::World(opened) => drill_world(alloc, number, opened, &mut source),
         Opened::Ended(_) => unreachable!(),
     }

@@ -10,6 +10,7 @@ mod playing;
 mod running;
 mod session;
 mod status;
+mod upgrading;
 mod viewing;
 
 pub use command::{Command, LabelWord};
@@ -96,7 +97,7 @@ fn explain_fault(rt: &HostRuntime, end: &str, cause: Option<io::Error>) {
 // Says that standard input is read, where a terminal waits for it to be typed.
 fn announce_input(rt: &HostRuntime, words: &[String]) {
     let reads = match words {
-        [word] => word.as_str() == "check",
+        [word] => word.as_str() == "check" || word.as_str() == "upgrade",
         [word, _] => word.as_str() == "play" || word.as_str() == "view",
         _ => false,
     };

@@ -1,16 +1,19 @@
 // What each command does.
-ghost use Rattle.std.specs.Prelude.{◌≡◌, true, ℕ, List, Some, Err};
+ghost use Rattle.std.specs.Prelude.{◌≡◌, true, ℕ, List, IfOk, Some, Err};
 ghost use Rattle.lab_engine.specs.Input.{input_of};
 ghost use Rattle.lab_engine.specs.Playing.{ends};
+ghost use Rattle.lab_engine.specs.UpgradeInput.{upgrade_of};
 ghost use Rattle.labsys.specs.Commands.{FitsCommand, LeavesAlone, reads_source, writes_trail};
 ghost use Rattle.labsys.specs.Playing.{CommandDid};
 ghost use Rattle.labsys.specs.Readable.{InputReadable};
+ghost use Rattle.labsys.specs.Upgrading.{WorldReadsBack};
 
 use crate::Command;
 use crate::checking::check;
 use crate::drilling::drill;
 use crate::generating::generate;
 use crate::playing::play;
+use crate::upgrading::upgrade;
 use crate::viewing::view;
 use io_ends::{Sink, Source};
 use lab_engine::{Fault, InputEnd};
@@ -35,6 +38,7 @@ pub fn perform<S: Source, K: Sink, T: Sink>(
     ensures readable { command.entry ≡ Command.Play → (text : List ℕ) → (S.view source.old).left ≡ Some text → InputReadable (input_of text)
         (ends (S.view source.old).faults (K.view out.old) (T.view trail.old))
         (ends (S.view source.new).faults (K.view out.new) (T.view trail.new)) }
+    ensures back { command.entry ≡ Command.Upgrade → (text : List ℕ) → (S.view source.old).left ≡ Some text → IfOk result (λ _. WorldReadsBack (upgrade_of text)) }
 {
     match command {
         Command::Play => play(alloc, source, out, trail),
@@ -48,5 +52,6 @@ pub fn perform<S: Source, K: Sink, T: Sink>(
             Ok(InputEnd::Whole)
         }
         Command::View(word) => view(alloc, word, source, out),
+        Command::Upgrade => upgrade(alloc, source, out),
     }
 }

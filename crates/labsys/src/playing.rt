@@ -20,7 +20,7 @@ use lab_engine::{
 };
 use lab_lattice::{Label, Lattice};
 use std::alloc::Global;
-use world_text::WorldText;
+use world_text::{Format, WorldText};
 
 // Whether the end line of a process is written, by the label that views the run, if one does.
 fn is_viewed(viewer: &Option<Label>, who: &Pid) -> bool
@@ -153,7 +153,7 @@ pub fn play<S: Source, K: Sink, T: Sink>(
         (ends (S.view source.old).faults (K.view out.old) (T.view trail.old))
         (ends (S.view source.new).faults (K.view out.new) (T.view trail.new)) }
 {
-    match open_input(alloc, source)? {
+    match open_input(alloc, Format::Two, source)? {
         Opened::World(opened) => play_world(alloc, opened, source, out, trail),
         Opened::Ended(ending) => end_without_world(alloc, ending, out),
     }

@@ -6,8 +6,8 @@ ghost use Rattle.lab_engine.specs.Order.{out_of, trail_of, IsInOrder};
 ghost use Rattle.labsys.specs.Commands.{LeavesAlone, command_of, due, reads_source};
 ghost use Rattle.lab_engine.specs.Counts.{counts};
 ghost use Rattle.labsys.specs.Counts.{counts_after};
-ghost use Rattle.labsys.specs.Promises.{Plays, Views};
-ghost use Rattle.labsys.specs.Clauses.{status_of, OnWhole, TakesAtMost, WhereReported, reported, if_used, used};
+ghost use Rattle.labsys.specs.Promises.{Plays, Upgrades, Views};
+ghost use Rattle.labsys.specs.Clauses.{status_of, OnWhole, TakesAtMost, WhereReported, reports_of_ends, if_used, reports_used};
 
 use crate::command::command_of;
 use crate::performing::perform;
@@ -34,8 +34,8 @@ fn status_of(played: Result<InputEnd, Fault>) -> Status
 /// the records of each call to the trail, and then the reply to the output. The file is not opened: `trail` stands
 /// for it. `view LABEL` plays the input too, and writes what the label sees of it to the output. `check` reads the same
 /// input and plays nothing: it writes how many objects, processes and calls there are, or the line that refuses the
-/// input. `gen N` writes the generated input of N lines to the output, and `drill N` plays that input and writes one line
-/// with how its calls were answered.
+/// input. `upgrade` reads an input of the old format, and writes it in the format of today. `gen N` writes the generated input
+/// of N lines to the output, and `drill N` plays that input and writes one line with how its calls were answered.
 pub fn run<S: Source, K: Sink, T: Sink>(
     alloc: Global,
     words: &[String],
@@ -54,18 +54,21 @@ pub fn run<S: Source, K: Sink, T: Sink>(
     ensures trail_fault { result ≡ Status.TrailFault → command_of words.now ≡ Some Command.Play }
 
     // At every exit both sinks have received the bytes of a prefix of the one order. An end that the command does not use need not report.
-    ensures order { IfSome (command_of words.now) (λ command. WhereReported (used command (reported (S.view source.old) (K.view out.old) (T.view trail.old))) (used command (reported (S.view source.new) (K.view out.new) (T.view trail.new)))
+    ensures order { IfSome (command_of words.now) (λ command. WhereReported (reports_used command (reports_of_ends (S.view source.old) (K.view out.old) (T.view trail.old))) (reports_used command (reports_of_ends (S.view source.new) (K.view out.new) (T.view trail.new)))
         (λ text o t. IsInOrder (due command text).order o t)) }
     // With status 0, 2 or 7 they have received all of it.
-    ensures whole { IfSome (command_of words.now) (λ command. OnWhole result (WhereReported (used command (reported (S.view source.old) (K.view out.old) (T.view trail.old))) (used command (reported (S.view source.new) (K.view out.new) (T.view trail.new)))
+    ensures whole { IfSome (command_of words.now) (λ command. OnWhole result (WhereReported (reports_used command (reports_of_ends (S.view source.old) (K.view out.old) (T.view trail.old))) (reports_used command (reports_of_ends (S.view source.new) (K.view out.new) (T.view trail.new)))
         (λ text o t. (o ≡ out_of (due command text).order) × (t ≡ trail_of (due command text).order)))) }
     // Which of these three it is depends on the source's bytes alone, and of `gen` and `drill` not on them.
     ensures ending { IfSome (command_of words.now) (λ command. OnWhole result ((text : List ℕ) → if_used (reads_source command) (S.view source.old).left ≡ Some text → result ≡ (due command text).status)) }
 
     // What `play` promises besides: records before replies, isolation, and the capability sets at the end.
-    ensures play { command_of words.now ≡ Some Command.Play → Plays result (reported (S.view source.old) (K.view out.old) (T.view trail.old)) (reported (S.view source.new) (K.view out.new) (T.view trail.new)) }
+    ensures play { command_of words.now ≡ Some Command.Play → Plays result (reports_of_ends (S.view source.old) (K.view out.old) (T.view trail.old)) (reports_of_ends (S.view source.new) (K.view out.new) (T.view trail.new)) }
     // What `view` promises besides: it writes what it writes of the part below its label alone.
-    ensures view { (word : List ℕ) → command_of words.now ≡ Some (Command.View word) → Views word result (reported (S.view source.old) (K.view out.old) (T.view trail.old)) (reported (S.view source.new) (K.view out.new) (T.view trail.new)) }
+    ensures view { (word : List ℕ) → command_of words.now ≡ Some (Command.View word) → Views word result (reports_of_ends (S.view source.old) (K.view out.old) (T.view trail.old)) (reports_of_ends (S.view source.new) (K.view out.new) (T.view trail.new)) }
+
+    // What `upgrade` promises besides: the same world and the same script, in the format of today.
+    ensures upgrade { command_of words.now ≡ Some Command.Upgrade → Upgrades result (reports_of_ends (S.view source.old) (K.view out.old) (T.view trail.old)) (reports_of_ends (S.view source.new) (K.view out.new) (T.view trail.new)) }
 
     // A command that reads the source reads it to its end where the input was accepted whole.
     ensures to_the_end { IfSome (command_of words.now) (λ command. reads_source command ≡ true → result ≡ Status.Done → IsAtEnd (S.view source.new).left) }

@@ -8,7 +8,7 @@ use io_ends::{MemSink, MemSource};
 use std::alloc::Global;
 use std::test::Fail;
 
-const INPUT: &[u8] = b"world 1\n\
+const INPUT: &[u8] = b"world 2\n\
     levels unc conf sec\n\
     categories a b\n\
     bound all\n\
@@ -190,7 +190,7 @@ fn a_reply_stands_before_the_next_records(rt: HostRuntime) -> Result<(), Fail> {
 }
 
 // A day of logins, programs and relabelling.
-const DAY: &[u8] = b"world 1\n\
+const DAY: &[u8] = b"world 2\n\
     levels public internal secret top\n\
     categories hr eng ops fin net med\n\
     bound all\n\
@@ -326,10 +326,15 @@ fn each_record_of_a_day_fails_in_turn(rt: HostRuntime) -> Result<(), Fail> {
 }
 
 // What inputs with a refused line leave.
-const REFUSED: [(Pieces, Pieces, Pieces); 3] = [
+const REFUSED: [(Pieces, Pieces, Pieces); 4] = [
     (&[], &[b"refused 1 world syntax\n"], &[]),
     (
-        &[b"world 1\nlevels unc"],
+        &[b"world 1\n", CALL],
+        &[b"refused 1 world old_format\n"],
+        &[],
+    ),
+    (
+        &[b"world 2\nlevels unc"],
         &[b"refused 2 world syntax\n"],
         &[],
     ),
@@ -386,7 +391,7 @@ fn one_byte_over_16_mib_is_too_long(rt: HostRuntime) -> Result<(), Fail> {
 #[test]
 fn words_that_are_no_command_touch_nothing(rt: HostRuntime) -> Result<(), Fail> {
     let alloc = rt.alloc();
-    let rows: [&[&str]; 33] = [
+    let rows: [&[&str]; 34] = [
         &[],
         &["frob", "trail.out"],
         &["play"],
@@ -407,6 +412,7 @@ fn words_that_are_no_command_touch_nothing(rt: HostRuntime) -> Result<(), Fail> 
         &["drill", "0"],
         &["drill", "100001"],
         &["check", "trail.out"],
+        &["upgrade", "trail.out"],
         &["view"],
         &["view", ""],
         &["view", "-unc"],
@@ -434,7 +440,7 @@ fn words_that_are_no_command_touch_nothing(rt: HostRuntime) -> Result<(), Fail> 
 }
 
 // The head of each generated input.
-const GENERATED: &[u8] = b"world 1\n\
+const GENERATED: &[u8] = b"world 2\n\
     levels l0 l1 l2 l3\n\
     categories c0 c1\n\
     bound all\n\
@@ -528,7 +534,7 @@ const CHECKED: [(Pieces, Status, &[u8]); 6] = [
     ),
     (&[], Status::Refused, b"refused 1 world syntax\n"),
     (
-        &[b"world 1\nlevels unc"],
+        &[b"world 2\nlevels unc"],
         Status::Refused,
         b"refused 2 world syntax\n",
     ),
@@ -573,7 +579,7 @@ fn a_fault_of_check_leaves_nothing(rt: HostRuntime) -> Result<(), Fail> {
 }
 
 // The head of a world in which the process of `sec` may write to the file of `unc`.
-const OPEN_BELOW: &[u8] = b"world 1\n\
+const OPEN_BELOW: &[u8] = b"world 2\n\
     levels unc conf sec\n\
     categories a b\n\
     bound all\n\
@@ -584,7 +590,7 @@ const OPEN_BELOW: &[u8] = b"world 1\n\
     script\n";
 
 // The head of a world whose process may take other labels.
-const RELABELS: &[u8] = b"world 1\n\
+const RELABELS: &[u8] = b"world 2\n\
     levels unc conf sec\n\
     categories a b\n\
     bound all\n\
@@ -651,7 +657,7 @@ const VIEWED: [(&str, Pieces, Status, Pieces); 9] = [
     ),
     (
         "zzz",
-        &[b"world 1\nlevels unc"],
+        &[b"world 2\nlevels unc"],
         Status::Refused,
         &[b"refused 2 world syntax\n"],
     ),
@@ -704,5 +710,119 @@ fn a_view_of_a_day_ends_at_the_crossing(rt: HostRuntime) -> Result<(), Fail> {
             &[]
         )?
     );
+    Ok(())
+}
+
+// The head of the worked input in the old format, spelled in another way.
+const OLD: &[u8] = b"world 1\n\
+    # a world\n\
+    levels unc conf sec\n\
+    categories a b\n\
+    bound all\n\
+    dir  / 0777 0 0 unc\n\
+    file /a 0644 10 10 sec \"hello\" \"=\"\n\
+    proc unc 10 10 - \"cap_mac_read=ep\"\n\
+    script\n";
+
+// The text of its world.
+const UPGRADED: &[u8] = b"world 2\n\
+    levels unc conf sec\n\
+    categories a b\n\
+    bound all\n\
+    dir / 0777 0 0 unc\n\
+    file /a 0644 10 10 sec \"hello\"\n\
+    proc unc 10 10 - \"cap_mac_read=ep\"\n\
+    script\n";
+
+// Lines of a script that could be spelled in another way.
+const COMMENT: &[u8] = b"# a  comment\n";
+
+const WIDE: &[u8] = b"1@unc  mac_get_file \"/a\"\n";
+
+const UNIFORM: &[u8] = b"1@unc setfcap \"cap_kill=ep\" /a\n";
+
+// What `upgrade` leaves of inputs: whole ones, and refused ones.
+const UPGRADES: [(Pieces, Status, Pieces); 9] = [
+    (
+        &[OLD, WIDE, b"\n", COMMENT, UNIFORM],
+        Status::Done,
+        &[UPGRADED, WIDE, b"\n", COMMENT, UNIFORM],
+    ),
+    (&[OLD], Status::Done, &[UPGRADED]),
+    (
+        &[OLD, WIDE, b"\n", b"1@unc fork now\n", CALL],
+        Status::Refused,
+        &[UPGRADED, WIDE, b"\n", b"refused 12 script syntax\n"],
+    ),
+    (
+        &[OLD, CALL, b"1@unc fork"],
+        Status::Refused,
+        &[UPGRADED, CALL, b"refused 11 script syntax\n"],
+    ),
+    (
+        &[
+            OLD,
+            UNIFORM,
+            b"1@unc setfcap \"cap_kill=e cap_chown=p\" /a\n",
+        ],
+        Status::Refused,
+        &[UPGRADED, UNIFORM, b"refused 11 script mixed_caps\n"],
+    ),
+    (
+        &[OLD, b"1@unc cap_set_file /a \"cap_kill=e\"\n"],
+        Status::Refused,
+        &[UPGRADED, b"refused 10 script mixed_caps\n"],
+    ),
+    (
+        &[OLD, b"1@unc cap_set_file .. \"cap_kill=e\"\n"],
+        Status::Refused,
+        &[UPGRADED, b"refused 10 script bad_path\n"],
+    ),
+    (&[], Status::Refused, &[b"refused 1 world syntax\n"]),
+    (&[INPUT], Status::Refused, &[b"refused 1 world syntax\n"]),
+];
+
+#[test]
+fn upgrade_writes_the_input_in_the_new_format(rt: HostRuntime) -> Result<(), Fail> {
+    let alloc = rt.alloc();
+    for (input, status, out) in UPGRADES {
+        assert!(rt;
+            performed(alloc, &["upgrade"], input, Fails::Nothing)?.is(alloc, status, out, &[])?
+        );
+    }
+    Ok(())
+}
+
+#[test]
+fn a_fault_of_upgrade_leaves_what_stands_before_it(rt: HostRuntime) -> Result<(), Fail> {
+    let alloc = rt.alloc();
+    let rows: [(Fails, Status, Pieces); 7] = [
+        (Fails::Read(1), Status::ReadFault, &[]),
+        (
+            Fails::Read(2),
+            Status::ReadFault,
+            &[UPGRADED, WIDE, b"\n", CALL],
+        ),
+        (Fails::Write(1), Status::WriteFault, &[]),
+        (Fails::Write(2), Status::WriteFault, &[UPGRADED]),
+        (Fails::Write(3), Status::WriteFault, &[UPGRADED, WIDE]),
+        (
+            Fails::Write(4),
+            Status::WriteFault,
+            &[UPGRADED, WIDE, b"\n"],
+        ),
+        (
+            Fails::Write(5),
+            Status::Done,
+            &[UPGRADED, WIDE, b"\n", CALL],
+        ),
+    ];
+    let input: Pieces = &[OLD, WIDE, b"\n", CALL];
+    for (fails, status, out) in rows {
+        assert!(rt;
+            performed(alloc, &["upgrade"], input, fails)?.is(alloc, status, out, &[])?,
+            "{fails:?}"
+        );
+    }
     Ok(())
 }

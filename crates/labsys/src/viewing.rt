@@ -24,10 +24,14 @@ use lab_lattice::Label;
 use lab_text::{Policy, mac_from_text};
 use line_text::LineFault;
 use std::alloc::Global;
-use world_text::WorldText;
+use world_text::{Format, WorldText};
 
-// Writes the last line of an input that is not whole.
-fn report_unless_whole<K: Sink>(alloc: Global, ending: InputEnd, out: &mut K) -> Result<(), Fault>
+/// Writes the last line of an input that is not whole.
+pub fn report_unless_whole<K: Sink>(
+    alloc: Global,
+    ending: InputEnd,
+    out: &mut K,
+) -> Result<(), Fault>
     ensures { WritesOut result (unless_whole ending) (K.view out.old) (K.view out.new) }
 {
     match ending {
@@ -114,7 +118,7 @@ pub fn view<S: Source, K: Sink>(
         (ends (S.view source.old).faults (K.view out.old) trail)
         (ends (S.view source.new).faults (K.view out.new) trail) }
 {
-    match open_input(alloc, source)? {
+    match open_input(alloc, Format::Two, source)? {
         Opened::World(opened) => {
             let Some(label) = label_named(&opened.read.policy, &word) else {
                 let ending = InputEnd::Refused(0, Part::View, LineFault::BadLabel);

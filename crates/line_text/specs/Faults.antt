@@ -6,6 +6,7 @@ use Rattle.line_text.specs.declared.fault.LineFault.TheVariants as fault
 -- the word of what is wrong with a line
 unfoldable pub fault_word : LineFault → List ℕ
 fault_word fault.TooLong = codes "too_long"
+fault_word fault.OldFormat = codes "old_format"
 fault_word fault.Syntax = codes "syntax"
 fault_word fault.UnknownName = codes "unknown_name"
 fault_word fault.Repeated = codes "repeated"
@@ -13,6 +14,7 @@ fault_word fault.NoParent = codes "no_parent"
 fault_word fault.RootLabel = codes "root_label"
 fault_word fault.LabelOrder = codes "label_order"
 fault_word fault.TooMany = codes "too_many"
+fault_word fault.MixedCaps = codes "mixed_caps"
 fault_word fault.BadTag = codes "bad_tag"
 fault_word fault.BadPath = codes "bad_path"
 fault_word fault.BadLabel = codes "bad_label"

@@ -8,6 +8,8 @@ ghost use Rattle.line_text.specs.Faults.{fault_word};
 pub enum LineFault {
     /// A line of the script has more than 2,048 bytes.
     TooLong,
+    /// It is the line `world 1`, whole and of at most 2,048 bytes, where `world 2` is expected.
+    OldFormat,
     /// It does not have the form of the line that is expected there, it is a line of the world and has more than 2,048 bytes
     /// or capabilities effective in a process that are not permitted, or the input ends inside it or before the world does.
     Syntax,
@@ -23,6 +25,8 @@ pub enum LineFault {
     LabelOrder,
     /// There are more than 16 levels, 64 categories, 65,535 objects of a label or 4,095 processes of a label.
     TooMany,
+    /// A file has some capabilities effective, but not all that are permitted or inheritable.
+    MixedCaps,
     /// The tag is not a process.
     BadTag,
     /// A path of a call is invalid.
@@ -41,6 +45,7 @@ impl LineFault {
     {
         match self {
             LineFault::TooLong => b"too_long",
+            LineFault::OldFormat => b"old_format",
             LineFault::Syntax => b"syntax",
             LineFault::UnknownName => b"unknown_name",
             LineFault::Repeated => b"repeated",
@@ -48,6 +53,7 @@ impl LineFault {
             LineFault::RootLabel => b"root_label",
             LineFault::LabelOrder => b"label_order",
             LineFault::TooMany => b"too_many",
+            LineFault::MixedCaps => b"mixed_caps",
             LineFault::BadTag => b"bad_tag",
             LineFault::BadPath => b"bad_path",
             LineFault::BadLabel => b"bad_label",

@@ -17,7 +17,7 @@ use Rattle.lab_lattice.proofs.Labels.{label_cmp_total, label_cmp_exact}
 use Rattle.kern_model.proofs.MapLemmas.{each-entries, get_or-found, head_T, tail_T}
 use Rattle.kern_model.proofs.TableLemmas.{both_T}
 use Rattle.kern_model.specs.Numbers.{Num, num_cmp}
-use Rattle.kern_model.specs.LabelLists.{Lists, items_in, numbered, list_at}
+use Rattle.kern_model.specs.LabelLists.{Lists, items_in, entries_from, list_at}
 use Rattle.num_table.proofs.Lists.{list_is, list_or_none}
 use Rattle.kern_model.proofs.NumberLaws.{num_cmp_total, num_cmp_exact}
 use Rattle.kern_model.proofs.ListItems.{placed}
@@ -40,13 +40,13 @@ lower l k m n = lower_by (label_cmp l k) (nat_cmp m n)
 
 module _ {X : Type 0} where
   -- a number is below a list that goes on with greater numbers of its label
-  below_later : (l : Label) (m n : ℕ) (ws : List (Option X)) (es : List (Num × X)) → m < n → T (below_all num_cmp (l, m) es) → T (below_all num_cmp (l, m) (numbered l n ws ++ es))
+  below_later : (l : Label) (m n : ℕ) (ws : List (Option X)) (es : List (Num × X)) → m < n → T (below_all num_cmp (l, m) es) → T (below_all num_cmp (l, m) (entries_from l n ws ++ es))
   below_later l m n [] es less h = h
   below_later l m n (None ∷ ws) es less h = below_later l m (n + 1) ws es (omega (arith, less)) h
   below_later l m n (Some x ∷ ws) es less h = both_T _ _ (later l m n less) (below_later l m (n + 1) ws es (omega (arith, less)) h)
 
   -- or with numbers of a greater label
-  below_lower : (l k : Label) (m n : ℕ) (ws : List (Option X)) (es : List (Num × X)) → T (is_lt (label_cmp l k)) → T (below_all num_cmp (l, m) es) → T (below_all num_cmp (l, m) (numbered k n ws ++ es))
+  below_lower : (l k : Label) (m n : ℕ) (ws : List (Option X)) (es : List (Num × X)) → T (is_lt (label_cmp l k)) → T (below_all num_cmp (l, m) es) → T (below_all num_cmp (l, m) (entries_from k n ws ++ es))
   below_lower l k m n [] es less h = h
   below_lower l k m n (None ∷ ws) es less h = below_lower l k m (n + 1) ws es less h
   below_lower l k m n (Some x ∷ ws) es less h = both_T _ _ (lower l k m n less) (below_lower l k m (n + 1) ws es less h)
@@ -55,7 +55,7 @@ module _ {X : Type 0} where
   below_lists l m [] h = tt
   below_lists l m (r ∷ lists) h = below_lower l r.0 m 0 r.1 (flat_map placed lists) (head_T _ _ h) (below_lists l m lists (tail_T _ _ h))
 
-  sorted_list : (l : Label) (n : ℕ) (ws : List (Option X)) (es : List (Num × X)) → ((m : ℕ) → T (below_all num_cmp (l, m) es)) → T (is_sorted num_cmp es) → T (is_sorted num_cmp (numbered l n ws ++ es))
+  sorted_list : (l : Label) (n : ℕ) (ws : List (Option X)) (es : List (Num × X)) → ((m : ℕ) → T (below_all num_cmp (l, m) es)) → T (is_sorted num_cmp es) → T (is_sorted num_cmp (entries_from l n ws ++ es))
   sorted_list l n [] es below h = h
   sorted_list l n (None ∷ ws) es below h = sorted_list l (n + 1) ws es below h
   sorted_list l n (Some x ∷ ws) es below h = both_T _ _ (below_later l n (n + 1) ws es (omega arith) (below n)) (sorted_list l (n + 1) ws es below h)
@@ -66,11 +66,11 @@ module _ {X : Type 0} where
 
   -- the numbers of a label
   abbrev pub placed_at : Lists (Option X) → Label → List (Num × X)
-  placed_at lists label = numbered label 0 (list_at lists label)
+  placed_at lists label = entries_from label 0 (list_at lists label)
 
   by_label : (lists : Lists (Option X)) (es : List (Label × List (Option X))) → AllByRecursion (λ (e : Label × List (Option X)). list_at lists e.0 ≡ e.1) es → flat_map placed es ≡ flat_map (placed_at lists) (keys_of es)
   by_label lists [] all = refl
-  by_label lists (e ∷ es) all = ap (λ r. numbered e.0 0 r ++ flat_map placed es) (sym all.0) ∙ ap (λ ns. placed_at lists e.0 ++ ns) (by_label lists es all.1)
+  by_label lists (e ∷ es) all = ap (λ r. entries_from e.0 0 r ++ flat_map placed es) (sym all.0) ∙ ap (λ ns. placed_at lists e.0 ++ ns) (by_label lists es all.1)
 
   -- the numbers of all labels, one label after another
   pub keys-items_in : (lists : Lists (Option X)) → map.keys (items_in lists) ≡ keys_of (flat_map (placed_at lists) (map.keys lists))
@@ -94,10 +94,10 @@ module _ {X : Type 0} where
   module _ (lists : Lists (Option X)) (labels : List Label) (i : ℕ) (before all : List Num) (is : before ++ left lists labels i ≡ all) where
     -- one label on
     pub one_more : (label : Label) → i < length labels → label ≡ get_or labels i label → (o : Option (List (Option X))) → o ≡ map.get lists label
-        → (new : List Num) → new ≡ before ++ keys_of (numbered label 0 (list_or_none o)) → new ++ left lists labels (i + 1) ≡ all
+        → (new : List Num) → new ≡ before ++ keys_of (entries_from label 0 (list_or_none o)) → new ++ left lists labels (i + 1) ≡ all
     one_more label low at o kept new more =
-        ap (λ ns. ns ++ left lists labels (i + 1)) more ∙ append_assoc before (keys_of (numbered label 0 (list_or_none o))) (left lists labels (i + 1))
-        ∙ ap (λ (r : List (Option X)). before ++ (keys_of (numbered label 0 r) ++ left lists labels (i + 1))) (sym (list_is lists label o kept))
+        ap (λ ns. ns ++ left lists labels (i + 1)) more ∙ append_assoc before (keys_of (entries_from label 0 (list_or_none o))) (left lists labels (i + 1))
+        ∙ ap (λ (r : List (Option X)). before ++ (keys_of (entries_from label 0 r) ++ left lists labels (i + 1))) (sym (list_is lists label o kept))
         ∙ ap (λ ns. before ++ ns) (sym (next_label lists labels i label low at)) ∙ is
 
     -- after the last label

@@ -1,7 +1,7 @@
 // The keys at the numbers of one label.
 ghost use Rattle.std.specs.Prelude.{◌≡◌, ◌++◌, [], None, Some, OnErr, OnOk, get_or};
 ghost use Rattle.std.specs.Map.{keys_of};
-ghost use Rattle.kern_model.specs.LabelLists.{IsSet, numbered};
+ghost use Rattle.kern_model.specs.LabelLists.{IsSet, entries_from};
 
 use kern_model::NoMemory;
 use lab_lattice::Label;
@@ -68,7 +68,7 @@ impl KeyList {
         label: &Label,
         numbers: &mut Vec<(Label, u16)>,
     ) -> Result<(), NoMemory>
-        ensures { OnOk result (numbers.new.items ≡ numbers.old.items ++ keys_of (numbered label.now 0 self.now)) }
+        ensures { OnOk result (numbers.new.items ≡ numbers.old.items ++ keys_of (entries_from label.now 0 self.now)) }
     {
         for place in 0..self.keys.len() {
             if self.keys[place].is_some() {

@@ -1,12 +1,13 @@
 // Credentials.
-ghost use Rattle.std.specs.Prelude.{◌≡◌, ◌||◌, true, false, IfOk, OnOk, OnErr};
-ghost use Rattle.cap_bits.specs.CapSet.{is_within};
+ghost use Rattle.std.specs.Prelude.{◌≡◌, ◌||◌, true, false, cond, IfOk, OnOk, OnErr};
+ghost use Rattle.cap_bits.specs.CapSet.{is_within, no_caps};
+ghost use Rattle.cap_bits.specs.FileCaps.{shown};
 ghost use Rattle.kern_model.specs.Exec.{exec_caps};
 ghost use Rattle.kern_model.specs.ProcessRows.{with_group, with_user};
 ghost use Rattle.kern_model.specs.Rules.{may_be_group, may_be_user, may_become};
 ghost use Rattle.proc_creds.specs.Credentials.{taken_on};
 
-use cap_bits::{CapSet, CapState};
+use cap_bits::{CapSet, CapState, FileCaps};
 use kern_model::{Gid, Ids, Mode, NoMemory, Uid};
 use lab_lattice::Label;
 use std::marker::Model;
@@ -63,15 +64,22 @@ fn may_become(old: &CapState, new: &CapState) -> bool
     new.p.within(&old.p) && new.e.within(&new.p) && new.i.within(&old.i.union(old.p))
 }
 
+// What is effective after exec of a file, by what is permitted.
+fn effective_by(file: &FileCaps, permitted: CapSet) -> CapSet
+    ensures { result ≡ cond file.now.eff permitted no_caps }
+{
+    if file.eff { permitted } else { CapSet::none() }
+}
+
 // The sets of a process after exec, by those before, those of the file and the bound.
-#[tactic(auto, using(crate::proofs::Within::meet_is_within))]
-fn exec_caps(old: &CapState, file: &CapState, bound: &CapSet) -> CapState
-    ensures formula { result ≡ exec_caps old.now file.now bound.now }
+#[tactic(auto, using(crate::proofs::Within::effective_shown, crate::proofs::Within::effective_within))]
+fn exec_caps(old: &CapState, file: &FileCaps, bound: &CapSet) -> CapState
+    ensures formula { result ≡ exec_caps old.now (shown file.now) bound.now }
     ensures within { is_within result.e result.p ≡ true }
 {
     let permitted = file.p.meet(*bound).union(file.i.meet(old.i));
     CapState {
-        e: file.e.meet(permitted),
+        e: effective_by(file, permitted),
         i: old.i,
         p: permitted,
     }
@@ -157,12 +165,12 @@ impl Creds {
     /// group that its set-id bits give.
     pub fn exec_transform(
         &mut self,
-        file: &CapState,
+        file: &FileCaps,
         bound: &CapSet,
         new_user: Option<Uid>,
         new_group: Option<Gid>,
     )
-        ensures { self.new ≡ record self.old { ids = taken_on self.old.ids new_user new_group; caps = exec_caps self.old.caps file.now bound.now } }
+        ensures { self.new ≡ record self.old { ids = taken_on self.old.ids new_user new_group; caps = exec_caps self.old.caps (shown file.now) bound.now } }
     {
         self.caps = exec_caps(&self.caps, file, bound);
         if let Some(user) = new_user {

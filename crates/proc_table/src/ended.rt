@@ -13,15 +13,13 @@ pub struct Place {
 }
 
 impl Model for Place {
-    ghost use Rattle.std.specs.Prelude.{◌≡◌, List, length};
-    ghost use Rattle.std.specs.Coded.{codes};
-    ghost use Rattle.lab_lattice.specs.Label.{label_code};
-    ghost use Rattle.kern_model.specs.declared.calls.Ending.{Ending};
-    ghost use Rattle.kern_model.specs.declared.numbers.Pid.{Pid};
+    ghost use Rattle.std.specs.Prelude.{◌≡◌, length};
+    ghost use Rattle.kern_model.proofs.StateCode.{ended_code};
+    ghost use Rattle.proc_table.specs.Procs.{EndedChildren};
 
-    ghost Value = { List (Pid × Ending) };
+    ghost Value = { EndedChildren };
 
-    ghost coded = { Prim.hlevel (codes, label_code) };
+    ghost coded = { ended_code };
 
     ghost view = { λ p. p.entry };
 
@@ -45,15 +43,12 @@ pub struct EndedList {
 }
 
 impl Model for EndedList {
-    ghost use Rattle.std.specs.Prelude.{List};
-    ghost use Rattle.std.specs.Coded.{codes};
-    ghost use Rattle.lab_lattice.specs.Label.{label_code};
-    ghost use Rattle.kern_model.specs.declared.calls.Ending.{Ending};
-    ghost use Rattle.kern_model.specs.declared.numbers.Pid.{Pid};
+    ghost use Rattle.kern_model.proofs.StateCode.{ended_code};
+    ghost use Rattle.proc_table.specs.Procs.{EndedChildren};
 
-    ghost Value = { List (Pid × Ending) };
+    ghost Value = { EndedChildren };
 
-    ghost coded = { Prim.hlevel (codes, label_code) };
+    ghost coded = { ended_code };
 
     ghost view = { λ l. l.entries };
 }

@@ -4,7 +4,7 @@ ghost use Rattle.std.specs.FinMap as map;
 ghost use Rattle.kern_model.specs.ProcessRows.{child_of};
 ghost use Rattle.kern_model.specs.Valid.{IsThere};
 ghost use Rattle.kern_model.specs.Maps.{IfPresent};
-ghost use Rattle.proc_table.specs.Procs.{TakesEnded, altered, with_ended, without_parent};
+ghost use Rattle.proc_table.specs.Procs.{TakesEnded, change_process, with_ended, without_parent};
 
 use crate::ended::Place;
 use crate::process::Proc;
@@ -112,7 +112,7 @@ impl Living {
     /// Appends a child that ended to the list of a process, if there is one with the number. It takes no memory.
     pub fn add_ended(&mut self, who: &Pid, place: Place, child: &Pid, ending: Ending)
         requires { IfPresent self.old who.now (λ p. length p.ended + 1 < 2 ^ 63) }
-        ensures { self.new ≡ altered self.old who.now (with_ended child.now ending) }
+        ensures { self.new ≡ change_process self.old who.now (with_ended child.now ending) }
     {
         if let Some(process) = self.get_mut(who) {
             process.ended.add(place, *child, ending);
@@ -121,7 +121,7 @@ impl Living {
 
     /// Leaves a process, if there is one with the number, without a parent. It takes no memory.
     pub fn orphan(&mut self, who: &Pid)
-        ensures { self.new ≡ altered self.old who.now without_parent }
+        ensures { self.new ≡ change_process self.old who.now without_parent }
     {
         if let Some(process) = self.get_mut(who) {
             process.parent = None;

@@ -1,7 +1,7 @@
 // One living process.
 ghost use Rattle.std.specs.Prelude.{◌≡◌, IfOk};
 ghost use Rattle.kern_model.specs.ProcessRows.{child_of};
-ghost use Rattle.proc_table.specs.Procs.{starting};
+ghost use Rattle.proc_table.specs.Procs.{new_process};
 
 use crate::ended::{EndedList, Place};
 use kern_model::{NoMemory, Oid, Pid};
@@ -39,7 +39,7 @@ impl Model for Proc {
 impl Proc {
     /// A process that starts, with its number.
     pub(crate) fn start(alloc: Global, who: &Pid, creds: Creds, cwd: Oid) -> Result<Proc, NoMemory>
-        ensures { IfOk result (λ process. process ≡ starting creds cwd) }
+        ensures { IfOk result (λ process. process ≡ new_process creds cwd) }
     {
         Ok(Proc {
             creds,

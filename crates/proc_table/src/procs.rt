@@ -2,11 +2,11 @@
 ghost use Rattle.std.specs.Prelude.{◌≡◌, ◌↔◌, ◌≤◌, None, Err, IfOk, OnErr, OnOk, drop, option_copied, option_map};
 ghost use Rattle.std.specs.FinMap as map;
 ghost use Rattle.kern_model.specs.ProcessRows.{child_of};
-ghost use Rattle.kern_model.specs.State.{drawn};
+ghost use Rattle.kern_model.specs.State.{last_drawn};
 ghost use Rattle.kern_model.specs.Valid.{IsThere};
 ghost use Rattle.kern_model.specs.declared.limits.TheConstants.{MAX_PROCS};
 ghost use Rattle.kern_model.specs.Maps.{IfPresent};
-ghost use Rattle.proc_table.specs.Procs.{creds_of, ended_by, has_living_child, next_in, no_procs, reaped, starting, with_new, with_process};
+ghost use Rattle.proc_table.specs.Procs.{creds_of, ended_by, has_living_child, next_in, no_procs, wait_result, new_process, with_new, with_process};
 
 use crate::process::Proc;
 use crate::table::Table;
@@ -85,8 +85,8 @@ impl Procs {
     pub fn boot(&mut self, creds: Creds, cwd: Oid) -> Result<Pid, ProcError>
         ensures who { IfOk result (λ who. who ≡ next_in self.old creds.label) }
         ensures fresh { map.get self.old.procs (next_in self.old creds.label) ≡ None }
-        ensures made { OnOk result (self.new ≡ with_new self.old (starting creds cwd)) }
-        ensures full { (result ≡ Err ProcError.Full) ↔ (MAX_PROCS ≤ drawn self.old.numbers creds.label) }
+        ensures made { OnOk result (self.new ≡ with_new self.old (new_process creds cwd)) }
+        ensures full { (result ≡ Err ProcError.Full) ↔ (MAX_PROCS ≤ last_drawn self.old.numbers creds.label) }
         ensures err { OnErr result (self.new ≡ self.old) }
     {
         let who = self.table.next(&creds.label).ok_or(ProcError::Full)?;
@@ -101,7 +101,7 @@ impl Procs {
         requires { IsThere self.old.procs parent.now }
         ensures who { IfPresent self.old.procs parent.now (λ p. IfOk result (λ who. who ≡ next_in self.old p.label)) }
         ensures made { IfPresent self.old.procs parent.now (λ p. OnOk result (self.new ≡ with_new self.old (child_of parent.now p))) }
-        ensures full { IfPresent self.old.procs parent.now (λ p. (result ≡ Err ProcError.Full) ↔ (MAX_PROCS ≤ drawn self.old.numbers p.label)) }
+        ensures full { IfPresent self.old.procs parent.now (λ p. (result ≡ Err ProcError.Full) ↔ (MAX_PROCS ≤ last_drawn self.old.numbers p.label)) }
         ensures err { OnErr result (self.new ≡ self.old) }
     {
         let label = self.table.living.label(parent);
@@ -114,7 +114,7 @@ impl Procs {
     /// Takes the child of a living process that ended first off its list, and returns it with its ending. It takes no memory.
     pub fn reap(&mut self, who: &Pid) -> Result<(Pid, Ending), ReapError>
         requires { IsThere self.old.procs who.now }
-        ensures answer { IfPresent self.old.procs who.now (λ p. result ≡ reaped p.ended (has_living_child self.old.procs who.now)) }
+        ensures answer { IfPresent self.old.procs who.now (λ p. result ≡ wait_result p.ended (has_living_child self.old.procs who.now)) }
         ensures taken { IfPresent self.old.procs who.now (λ p. OnOk result (self.new ≡ with_process self.old who.now (record p { ended = drop 1 p.ended }))) }
         ensures err { OnErr result (self.new ≡ self.old) }
     {

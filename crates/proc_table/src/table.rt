@@ -4,7 +4,7 @@ ghost use Rattle.std.specs.FinMap as map;
 ghost use Rattle.kern_model.specs.Valid.{IsThere};
 ghost use Rattle.proc_table.specs.Children.{IsKept};
 ghost use Rattle.kern_model.specs.Maps.{IfPresent};
-ghost use Rattle.proc_table.specs.Procs.{IsNextIn, all_parted, ended_by, without_ended};
+ghost use Rattle.proc_table.specs.Procs.{IsNextIn, all_without_parent, ended_by, without_ended};
 
 use crate::children::Children;
 use crate::living::Living;
@@ -121,7 +121,7 @@ impl Table {
     // Leaves the living children of a process without a parent.
     fn leave_children(&mut self, who: &Pid)
         requires { IsKept self.old.living self.old.children self.old.made }
-        ensures living { self.new.living ≡ all_parted who.now self.old.living }
+        ensures living { self.new.living ≡ all_without_parent who.now self.old.living }
         ensures numbers { self.new.numbers ≡ self.old.numbers }
         ensures kept { IsKept self.new.living self.new.children self.new.made }
     {

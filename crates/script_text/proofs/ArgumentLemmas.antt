@@ -9,7 +9,7 @@ use Rattle.std.proofs.lemmas.List.{nil_from_length}
 use Rattle.fs_path.specs.Options.{keep_if}
 use Rattle.kern_model.specs.declared.calls.OpenFlags.{OpenFlags}
 use Rattle.kern_model.specs.Arguments.{are_flags}
-use Rattle.script_text.specs.Argument.{flags_in, flags as some_flags, formed, is_in_order}
+use Rattle.script_text.specs.Argument.{flags_in, flags as some_flags, value_or_syntax, is_in_order}
 use Rattle.script_text.specs.Reading.{Reading}
 use Rattle.script_text.specs.declared.fault.LineError.TheVariants as error
 
@@ -168,13 +168,13 @@ module _ (word : List ℕ) where
 -- flags that may stand together, as asked
 abbrev pub fitting : Bool → Option OpenFlags → Reading OpenFlags
 fitting creates None = Err error.Syntax
-fitting creates (Some f) = formed (keep_if (are_flags f && beq f.c creates) f)
+fitting creates (Some f) = value_or_syntax (keep_if (are_flags f && beq f.c creates) f)
 
 -- where the letters of a word are in order, its flags have only to fit
 pub flags_fitting : (creates : Bool) (word : List ℕ) → some_flags creates word ≡ fitting creates (keep_if (is_in_order word) (flags_in word))
 unfolding some_flags
 flags_fitting creates word = by_order (is_in_order word)
   where
-    by_order : (v : Bool) → formed (keep_if (v && are_flags (flags_in word) && beq (flags_in word).c creates) (flags_in word)) ≡ fitting creates (keep_if v (flags_in word))
+    by_order : (v : Bool) → value_or_syntax (keep_if (v && are_flags (flags_in word) && beq (flags_in word).c creates) (flags_in word)) ≡ fitting creates (keep_if v (flags_in word))
     by_order true = refl
     by_order false = refl

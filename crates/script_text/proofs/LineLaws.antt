@@ -29,7 +29,7 @@ use Rattle.lab_lattice.specs.Label.{Label, dominates}
 use Rattle.lab_text.specs.Policy.{PolicyNames, top_of}
 use Rattle.lab_text.proofs.Parsed.{parsed_valid}
 use Rattle.lab_text.specs.Text.{parse_label}
-use Rattle.script_text.specs.Argument.{process, pid_by, path as a_path, label as a_label, tag as a_tag, pid as a_pid, up_to as a_number_up_to, mode as a_mode, permissions as a_permission, offset as an_offset, signed, flags as some_flags, flags_in, is_in_order, numbered}
+use Rattle.script_text.specs.Argument.{process, pid_by, path as a_path, label as a_label, tag as a_tag, pid as a_pid, up_to as a_number_up_to, mode as a_mode, permissions as a_permission, offset as an_offset, signed_number, flags as some_flags, flags_in, is_in_order, number_and_rest}
 use Rattle.kern_model.specs.Named.{call_named}
 use Rattle.script_text.specs.Calls.{parse_call, none_parsed, one_parsed, two_parsed, three_parsed}
 use Rattle.script_text.specs.Tools.{on_paths, parse_tool, paths as some_paths, paths_of, plain, with_caps, with_mark}
@@ -99,7 +99,7 @@ same_size n = omega (arith, ints)
 
 offset_fine : (w : List ℕ) (z : ℤ) → an_offset w ≡ Ok z → nat_le (unsigned_abs z) MAX_OFFSET ≡ true
 unfolding an_offset
-offset_fine w z h = by_sign (starts_with ◌==◌ w (codes "-")) (there (signed w) _ z h)
+offset_fine w z h = by_sign (starts_with ◌==◌ w (codes "-")) (there (signed_number w) _ z h)
   where
     sized : (f : ℕ → ℤ) → ((n : ℕ) → unsigned_abs (f n) ≡ n) → (o : Option ℕ) → ((n : ℕ) → o ≡ Some n → nat_le n MAX_OFFSET ≡ true) → option_map f o ≡ Some z → nat_le (unsigned_abs z) MAX_OFFSET ≡ true
     sized f size None within h = absurd (cc)
@@ -165,7 +165,7 @@ module _ (policy : PolicyNames) where
 
   pid_fine : (w : List ℕ) (who : Pid) → a_pid policy w ≡ Ok who → is_number (top_of policy) who ≡ true
   unfolding a_pid
-  pid_fine w who h = by_split (numbered w) h
+  pid_fine w who h = by_split (number_and_rest w) h
     where
       by_split : (o : Option (List ℕ × List ℕ)) → pid_by policy o ≡ Ok who → is_number (top_of policy) who ≡ true
       by_split None h = absurd (cc)

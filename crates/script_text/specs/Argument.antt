@@ -27,8 +27,8 @@ use Rattle.script_text.specs.declared.fault.LineError.TheVariants as error
 use Rattle.script_text.specs.Reading.{Reading}
 
 -- the value of a word, or `syntax` where it has none
-abbrev pub formed : {X : Type 0} → Option X → Reading X
-formed parsed = ok_or parsed error.Syntax
+abbrev pub value_or_syntax : {X : Type 0} → Option X → Reading X
+value_or_syntax parsed = ok_or parsed error.Syntax
 
 -- ---- paths, labels and capabilities
 
@@ -55,16 +55,16 @@ abbrev pub process : PolicyNames → List ℕ × List ℕ → Option Pid
 process policy parts = option_and_then (λ n. option_map (λ at. record { label = at; n = n }) (parse_label policy parts.1)) (numeral 10 10 1 MAX_PROCS parts.0)
 
 -- the process of a tag: `n@label`
-abbrev pub tagged : PolicyNames → List ℕ → Option Pid
-tagged policy word = option_and_then (process policy) (split_once 64 word)
+abbrev pub process_of_tag : PolicyNames → List ℕ → Option Pid
+process_of_tag policy word = option_and_then (process policy) (split_once 64 word)
 
 -- a tag
 unfoldable pub tag : PolicyNames → List ℕ → Reading Pid
-tag policy word = ok_or (tagged policy word) error.BadTag
+tag policy word = ok_or (process_of_tag policy word) error.BadTag
 
 -- a number, `@` and a rest
-abbrev pub numbered : List ℕ → Option (List ℕ × List ℕ)
-numbered word = option_and_then (λ (parts : List ℕ × List ℕ). keep_if (is_some (number_of parts.0)) parts) (split_once 64 word)
+abbrev pub number_and_rest : List ℕ → Option (List ℕ × List ℕ)
+number_and_rest word = option_and_then (λ (parts : List ℕ × List ℕ). keep_if (is_some (number_of parts.0)) parts) (split_once 64 word)
 
 abbrev pub pid_by : PolicyNames → Option (List ℕ × List ℕ) → Reading Pid
 pid_by policy None = Err error.Syntax
@@ -72,39 +72,39 @@ pid_by policy (Some parts) = ok_or (process policy parts) error.BadLabel
 
 -- the number of a process: of the form of a number, `@` and a rest
 unfoldable pub pid : PolicyNames → List ℕ → Reading Pid
-pid policy word = pid_by policy (numbered word)
+pid policy word = pid_by policy (number_and_rest word)
 
 -- ---- values
 
 -- a number
 unfoldable pub number : List ℕ → Reading ℕ
-number word = formed (number_of word)
+number word = value_or_syntax (number_of word)
 
 -- a number up to a limit
 unfoldable pub up_to : ℕ → List ℕ → Reading ℕ
-up_to high word = formed (numeral 10 10 0 high word)
+up_to high word = value_or_syntax (numeral 10 10 0 high word)
 
 -- a mode
 unfoldable pub mode : List ℕ → Reading ℕ
-mode word = formed (mode_of word)
+mode word = value_or_syntax (mode_of word)
 
 -- a mode of permission bits alone
 unfoldable pub permissions : List ℕ → Reading ℕ
-permissions word = formed (numeral 8 4 0 MAX_PERMISSIONS word)
+permissions word = value_or_syntax (numeral 8 4 0 MAX_PERMISSIONS word)
 
 -- bytes
 unfoldable pub bytes : List ℕ → Reading (List ℕ)
 bytes word = Ok word
 
 -- a number, before which `-` may stand
-abbrev pub signed : List ℕ → Option ℤ
-signed word =
+abbrev pub signed_number : List ℕ → Option ℤ
+signed_number word =
     cond (starts_with ◌==◌ word (codes "-")) (option_map (λ n. neg_ℤ (pos n)) (number_of (drop 1 word)))
     (option_map (λ n. pos n) (number_of word))
 
 -- an offset
 unfoldable pub offset : List ℕ → Reading ℤ
-offset word = formed (signed word)
+offset word = value_or_syntax (signed_number word)
 
 -- ---- words of a list
 
@@ -122,7 +122,7 @@ signal word =
     (cond (same_bytes word (codes "KILL")) (Ok sent.Kill) (Err error.Syntax)))
 
 unfoldable pub switch : List ℕ → Reading Bool
-switch word = formed (choice (codes "on") (codes "off") word)
+switch word = value_or_syntax (choice (codes "on") (codes "off") word)
 
 -- ---- flags
 
@@ -144,4 +144,4 @@ is_in_order word = same_bytes (filter (stands_in word) flag_letters) word
 
 -- flags that may stand together, with `c` exactly where a file may be created
 unfoldable pub flags : Bool → List ℕ → Reading OpenFlags
-flags creates word = formed (keep_if (is_in_order word && are_flags (flags_in word) && beq (flags_in word).c creates) (flags_in word))
+flags creates word = value_or_syntax (keep_if (is_in_order word && are_flags (flags_in word) && beq (flags_in word).c creates) (flags_in word))

@@ -52,8 +52,8 @@ fn process(policy: &Policy, number: &[u8], label: &[u8]) -> Option<Pid>
 }
 
 /// The process of a tag, if it is one.
-pub fn tagged(policy: &Policy, word: &LineWord<'_>) -> Option<Pid>
-    ensures { result ≡ argument.tagged policy.now word.now.bytes }
+pub fn process_of_tag(policy: &Policy, word: &LineWord<'_>) -> Option<Pid>
+    ensures { result ≡ argument.process_of_tag policy.now word.now.bytes }
 {
     let (number, label) = split_once(word.bytes.items(), b'@')?;
     process(policy, number, label)
@@ -64,7 +64,7 @@ pub fn tagged(policy: &Policy, word: &LineWord<'_>) -> Option<Pid>
 pub fn tag(policy: &Policy, word: &LineWord<'_>) -> Result<Pid, LineError>
     ensures { result ≡ argument.tag policy.now word.now.bytes }
 {
-    tagged(policy, word).ok_or(LineError::BadTag)
+    process_of_tag(policy, word).ok_or(LineError::BadTag)
 }
 
 /// The number of a process.
@@ -130,8 +130,8 @@ pub fn bytes(word: &LineWord<'_>) -> Result<ByteList, LineError>
     word.bytes.to_list().map_err(LineError::NoMemory)
 }
 
-fn signed(word: &[u8]) -> Option<i64>
-    ensures { result ≡ argument.signed word.now }
+fn signed_number(word: &[u8]) -> Option<i64>
+    ensures { result ≡ argument.signed_number word.now }
 {
     if word.starts_with(b"-") {
         let n = number_of(&word[1..])?;
@@ -145,7 +145,7 @@ fn signed(word: &[u8]) -> Option<i64>
 pub fn offset(word: &LineWord<'_>) -> Result<i64, LineError>
     ensures { result ≡ argument.offset word.now.bytes }
 {
-    signed(word.bytes.items()).ok_or(LineError::Syntax)
+    signed_number(word.bytes.items()).ok_or(LineError::Syntax)
 }
 
 /// From where an offset is counted.

@@ -50,7 +50,7 @@ fn call_line(
     ensures { Answers (call_line policy.now tag.now.bytes (bytes_in arguments.now) name) result }
 {
     let call = call_of(alloc, policy, name, arguments);
-    match (argument::tagged(policy, tag), call) {
+    match (argument::process_of_tag(policy, tag), call) {
         (Some(who), Ok(call)) => Ok(Line::One { who, call }),
         (Some(_), Err(fault)) => Err(fault),
         (None, Ok(_)) => Err(LineError::BadTag),

@@ -1,6 +1,6 @@
 -- The utilities by their words.
 use Rattle.std.specs.Prelude.{ℕ, List, [], ◌∷◌, Option, codes}
-use Rattle.kern_model.specs.Named.{named}
+use Rattle.kern_model.specs.Named.{find_named}
 use Rattle.sec_utils.specs.declared.util.Tool.{Tool}
 use Rattle.sec_utils.specs.declared.util.Tool.TheVariants as tool
 
@@ -16,4 +16,4 @@ all_tools = tool.GetFcap ∷ tool.SetFcap ∷ tool.GetFmac ∷ tool.SetFmac ∷ 
 
 -- the utility with a word
 abbrev pub tool_named : List ℕ → Option Tool
-tool_named = named tool_word all_tools
+tool_named = find_named tool_word all_tools

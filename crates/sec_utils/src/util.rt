@@ -37,7 +37,7 @@ impl Tool {
     }
 
     /// The utility with this word.
-    #[tactic(auto, unfolding(kern_model::specs::Named::named))]
+    #[tactic(auto, unfolding(kern_model::specs::Named::find_named))]
     pub fn from_word(word: &[u8]) -> Option<Tool>
         ensures found { result ≡ tool_named word.now }
         ensures exact { IsFoundBy tool_word word.now result }

@@ -7,7 +7,7 @@ use Rattle.kern_model.specs.declared.numbers.Oid.{Oid}
 use Rattle.kern_model.specs.declared.numbers.Pid.{Pid}
 use Rattle.kern_model.specs.declared.objects.Object.{Object}
 use Rattle.kern_model.specs.Keys.{pid_cmp, spot_cmp}
-use Rattle.kern_model.specs.State.{State, Process, SetObject, SetProcess, changed, object_at, stub_object}
+use Rattle.kern_model.specs.State.{State, Process, SetObject, SetProcess, apply_change, object_at, stub_object}
 use Rattle.kern_model.specs.Valid.{IsThere}
 use Rattle.kern_model.proofs.MapLemmas.{get_or-found}
 use Rattle.fs_nodes.specs.Nodes.{NodeTable, with_object}
@@ -18,11 +18,11 @@ module _ {shown s : State} (shows : shown ≡ s) where
   object_shown id there = ap (λ (t : State). map.get t.objects id) shows ∙ there.is
 
   pub object_set : (id : Oid) (there : IsThere s.objects id) (new : Object → Object) {table : NodeTable} {entries : FinMap spot_cmp Oid} → table ≡ with_object (record { objects = shown.objects; numbers = shown.object_numbers }) id (new there.value) → entries ≡ shown.entries
-      → record shown { objects = table.objects; object_numbers = table.numbers; entries = entries } ≡ changed s (SetObject id (new (object_at s id)))
+      → record shown { objects = table.objects; object_numbers = table.numbers; entries = entries } ≡ apply_change s (SetObject id (new (object_at s id)))
   object_set id there new set same =
       (λ i. record shown { objects = (set i).objects; object_numbers = (set i).numbers; entries = same i })
-      ∙ ap (λ t. changed t (SetObject id (new there.value))) shows
-      ∙ ap (λ (o : Object). changed s (SetObject id (new o))) (sym (get_or-found s.objects id (stub_object s.top) there.value there.is))
+      ∙ ap (λ t. apply_change t (SetObject id (new there.value))) shows
+      ∙ ap (λ (o : Object). apply_change s (SetObject id (new o))) (sym (get_or-found s.objects id (stub_object s.top) there.value there.is))
 
-  pub process_set : (who : Pid) (p : Process) {procs : FinMap pid_cmp Process} → procs ≡ map.insert shown.procs who p → record shown { procs = procs } ≡ changed s (SetProcess who p)
-  process_set who p set = (λ i. record shown { procs = set i }) ∙ ap (λ t. changed t (SetProcess who p)) shows
+  pub process_set : (who : Pid) (p : Process) {procs : FinMap pid_cmp Process} → procs ≡ map.insert shown.procs who p → record shown { procs = procs } ≡ apply_change s (SetProcess who p)
+  process_set who p set = (λ i. record shown { procs = set i }) ∙ ap (λ t. apply_change t (SetProcess who p)) shows

@@ -1,4 +1,5 @@
 mod CallLemmas
+mod CapsLemmas
 mod ChangeLemmas
 mod KeepLemmas
 mod ThereLemmas

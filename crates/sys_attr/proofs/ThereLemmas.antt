@@ -11,7 +11,7 @@ use Rattle.kern_model.specs.declared.numbers.Did.{Did}
 use Rattle.kern_model.specs.declared.numbers.Oid.{Oid}
 use Rattle.kern_model.specs.declared.numbers.Pid.{Pid}
 use Rattle.kern_model.specs.declared.objects.Object.{Object}
-use Rattle.kern_model.specs.Descriptors.{Opened, opened}
+use Rattle.kern_model.specs.Descriptors.{Opened, open_description}
 use Rattle.kern_model.specs.Keys.{oid_cmp}
 use Rattle.kern_model.specs.State.{State, Process, Description}
 use Rattle.kern_model.specs.Valid.{IsThere, IsValid}
@@ -46,8 +46,8 @@ described_by s did f is =
     ] refl is
 
 -- what an open descriptor refers to is a description of the state
-described_there : (s : State) (p : Process) (fd : ℕ) (f : Opened) → opened s p fd ≡ Some f → map.get s.descriptions f.did ≡ Some f.description
-unfolding opened
+described_there : (s : State) (p : Process) (fd : ℕ) (f : Opened) → open_description s p fd ≡ Some f → map.get s.descriptions f.did ≡ Some f.description
+unfolding open_description
 described_there s p fd f is =
     elim (map.get p.fds fd) as (λ (w : Option Did). option_and_then (λ did. option_map (λ d. record { did = did; description = d }) (map.get s.descriptions did)) w ≡ Some f → map.get s.descriptions f.did ≡ Some f.description) [
       | None ↦ λ none. absurd (never_some {X = Opened} None f refl none)
@@ -55,7 +55,7 @@ described_there s p fd f is =
     ] is
 
 -- the object that an open descriptor refers to is there
-pub descriptor_there : (s : State) → ∥ IsValid s ∥₁ → (p : Process) (fd : ℕ) (f : Opened) → opened s p fd ≡ Some f → IsThere s.objects f.description.object
+pub descriptor_there : (s : State) → ∥ IsValid s ∥₁ → (p : Process) (fd : ℕ) (f : Opened) → open_description s p fd ≡ Some f → IsThere s.objects f.description.object
 descriptor_there s valid p fd f is =
     there_where s.objects f.description.object (∥∥₁_map valid (λ v.
     let d = v.descriptions f.did f.description (described_there s p fd f is) in

@@ -1,5 +1,5 @@
 -- What of an object calls read and set.
-use Rattle.kern_model.specs.AttrRows.{change_caps, relabel, report_caps, report_label, written}
+use Rattle.kern_model.specs.AttrRows.{change_caps, relabel, report_caps, report_label, write_object_then}
 use Rattle.kern_model.specs.declared.checks.Place.{Place}
 use Rattle.kern_model.specs.declared.numbers.Oid.{Oid}
 use Rattle.kern_model.specs.declared.numbers.Pid.{Pid}
@@ -30,4 +30,4 @@ change s who p (setting.Label label) id place o = relabel s who p label id place
 
 -- a field of the object that an argument names is set
 abbrev pub set_row : State → Pid → Process → ObjectArgument → Setting → Row
-set_row s who p object new = on_argument s p object (written s p (change s who p new))
+set_row s who p object new = on_argument s p object (write_object_then s p (change s who p new))

@@ -23,8 +23,8 @@ on_argument s p (argument.Path path) k = on_path s p path.now k
 on_argument s p (argument.Descriptor fd) k = on_open_object s p fd k
 
 -- the object that an argument names is found, and the row goes on with it and its place
-abbrev pub finding : State → Process → ObjectArgument → (Oid × Place → Row) → Row
-finding s p object rest = on_argument s p object (λ id place. rest (id, place))
+abbrev pub find_argument : State → Process → ObjectArgument → (Oid × Place → Row) → Row
+find_argument s p object rest = on_argument s p object (λ id place. rest (id, place))
 
 -- an object that was found is read, by label, and the row goes on with its metadata
 abbrev pub read_found : State → Process → Oid × Place → (Metadata → Row) → Row
@@ -35,12 +35,12 @@ abbrev pub write_found : State → Process → Oid × Place → (Metadata × Pla
 write_found s p r rest = write_object s p r.0 r.1 (λ o. rest (metadata_of s r.0, r.1))
 
 -- the object that an argument names is read, and the row goes on with its metadata
-abbrev pub reading : State → Process → ObjectArgument → (Metadata → Row) → Row
-reading s p object rest = finding s p object (λ r. read_found s p r rest)
+abbrev pub read_argument : State → Process → ObjectArgument → (Metadata → Row) → Row
+read_argument s p object rest = find_argument s p object (λ r. read_found s p r rest)
 
 -- the object that an argument names is written, and the row goes on with its metadata and its place
-abbrev pub writing : State → Process → ObjectArgument → (Metadata × Place → Row) → Row
-writing s p object rest = finding s p object (λ r. write_found s p r rest)
+abbrev pub write_argument : State → Process → ObjectArgument → (Metadata × Place → Row) → Row
+write_argument s p object rest = find_argument s p object (λ r. write_found s p r rest)
 
 -- capability sets of a file of a state are asked for
 abbrev pub asks_caps_at : CallerView → CapState → State → Oid → Place → Row → Row

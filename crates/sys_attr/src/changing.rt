@@ -2,7 +2,7 @@
 ghost use Rattle.std.specs.Prelude.{◌≡◌, IsSome};
 ghost use Rattle.std.specs.FinMap as map;
 ghost use Rattle.kern_model.specs.AttrRows.{with_attr, with_label};
-ghost use Rattle.kern_model.specs.State.{SetProcess, changed, object_at, process_at};
+ghost use Rattle.kern_model.specs.State.{SetProcess, apply_change, object_at, process_at};
 ghost use Rattle.kern_model.specs.Valid.{IsThere};
 
 use kern_model::{Attr, Mode, Oid, Pid};
@@ -12,7 +12,7 @@ use sys_lookup::Shared;
 /// Gives an object that is there other attributes.
 pub fn give_attr(shared: &mut Shared, id: &Oid, attr: Attr)
     requires { IsThere shared.old.objects id.now }
-    ensures { shared.new ≡ changed shared.old (with_attr id.now (object_at shared.old id.now) attr) }
+    ensures { shared.new ≡ apply_change shared.old (with_attr id.now (object_at shared.old id.now) attr) }
 {
     shared.tree.set_attr(id, attr);
 }
@@ -20,7 +20,7 @@ pub fn give_attr(shared: &mut Shared, id: &Oid, attr: Attr)
 /// Gives an object that is there another label.
 pub fn give_label(shared: &mut Shared, id: &Oid, label: Label)
     requires { IsThere shared.old.objects id.now }
-    ensures { shared.new ≡ changed shared.old (with_label id.now (object_at shared.old id.now) label) }
+    ensures { shared.new ≡ apply_change shared.old (with_label id.now (object_at shared.old id.now) label) }
 {
     shared.tree.set_label(id, label);
 }
@@ -29,7 +29,7 @@ pub fn give_label(shared: &mut Shared, id: &Oid, label: Label)
 pub fn give_umask(shared: &mut Shared, who: &Pid, mode: Mode) -> Mode
     requires { IsSome (map.get shared.old.procs who.now) }
     ensures bits { result ≡ (process_at shared.old who.now).umask }
-    ensures changed { shared.new ≡ changed shared.old (SetProcess who.now (record (process_at shared.old who.now) { umask = mode })) }
+    ensures changed { shared.new ≡ apply_change shared.old (SetProcess who.now (record (process_at shared.old who.now) { umask = mode })) }
 {
     let Some(creds) = shared.procs.creds_mut(who) else {
         unreachable!();

@@ -51,7 +51,7 @@ pub fn get_field(
     match field {
         Field::Caps => {
             refuse_if(!object.is_file(), Errno::EINVAL)?;
-            Ok(Effect::answers(Answer::Caps(object.attr.caps)))
+            Ok(Effect::answers(Answer::Caps(object.attr.caps.shown())))
         }
         Field::Label => Ok(Effect::answers(Answer::Mark(object.label))),
     }
@@ -73,9 +73,9 @@ pub fn set_field(
     let (object, place) = write_named(&caller, checks, object)?;
     match setting {
         Setting::Caps(caps) => {
-            ask_caps(&caller, checks, &object, &caps, place)?;
+            let file_caps = ask_caps(&caller, checks, &object, &caps, place)?;
             let attr = Attr {
-                caps,
+                caps: file_caps,
                 ..object.attr
             };
             give_attr(shared, &object.id, attr);

@@ -4,7 +4,7 @@ ghost use Rattle.kern_model.specs.Valid.{IsThere, IsValid};
 ghost use Rattle.chk_rules.specs.RowSteps.{GoesOn};
 ghost use Rattle.sys_lookup.specs.Callers.{IsLiving};
 ghost use Rattle.sys_lookup.specs.Shared.{metadata_of};
-ghost use Rattle.sys_attr.specs.Objects.{finding, reading, writing};
+ghost use Rattle.sys_attr.specs.Objects.{find_argument, read_argument, write_argument};
 
 use chk_rules::{Checks, Stop};
 use kern_model::{Fd, Oid, Path, Place};
@@ -25,7 +25,7 @@ pub fn read_named(
     checks: &mut Checks,
     object: ObjectArgument<'_>,
 ) -> Result<Metadata, Stop>
-    ensures step { GoesOn checks.old (reading caller.now.state caller.now.process object.entry) result checks.new }
+    ensures step { GoesOn checks.old (read_argument caller.now.state caller.now.process object.entry) result checks.new }
     ensures object { IfOk result (λ object. object ≡ metadata_of caller.now.state object.id) }
 {
     let (id, place) = find(caller, checks, object)?;
@@ -40,7 +40,7 @@ pub fn write_named(
 ) -> Result<(Metadata, Place), Stop>
     requires valid { ∥ IsValid caller.now.state ∥₁ }
     requires living { IsLiving caller.now }
-    ensures step { GoesOn checks.old (writing caller.now.state caller.now.process object.entry) result checks.new }
+    ensures step { GoesOn checks.old (write_argument caller.now.state caller.now.process object.entry) result checks.new }
     ensures object { IfOk result (λ r. r.0 ≡ metadata_of caller.now.state r.0.id) }
     ensures there { IfOk result (λ r. IsThere caller.now.state.objects r.0.id) }
 {
@@ -55,7 +55,7 @@ fn find(
     checks: &mut Checks,
     object: ObjectArgument<'_>,
 ) -> Result<(Oid, Place), Stop>
-    ensures step { GoesOn checks.old (finding caller.now.state caller.now.process object.entry) result checks.new }
+    ensures step { GoesOn checks.old (find_argument caller.now.state caller.now.process object.entry) result checks.new }
     ensures there { ∥ IsValid caller.now.state ∥₁ → IsLiving caller.now → IfOk result (λ r. IsThere caller.now.state.objects r.0) }
 {
     match object {

@@ -1,5 +1,5 @@
 -- The objects that open descriptors refer to.
-use Rattle.std.specs.Prelude.{◌≡◌, ◌≤◌, Bool, true, false, None, Some, length, refl}
+use Rattle.std.specs.Prelude.{◌≡◌, ◌≤◌, true, false, None, Some, length, refl}
 use Rattle.std.specs.FinMap as map
 use Rattle.std.proofs.Common.{ap, sym, subst, ◌∙◌}
 use Rattle.std.proofs.Math.Bridge.{le_prop}

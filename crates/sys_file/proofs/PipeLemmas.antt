@@ -12,8 +12,8 @@ use Rattle.kern_model.specs.declared.numbers.Did.{Did}
 use Rattle.kern_model.specs.declared.numbers.Oid.{Oid}
 use Rattle.kern_model.specs.declared.numbers.Pid.{Pid}
 use Rattle.kern_model.specs.Descriptors.{lowest_free, with_descriptor}
-use Rattle.kern_model.specs.FileRows.{drawing_pipe, has_free_descriptors, on_pipe, opening, pipe_creation, second_description}
-use Rattle.kern_model.specs.State.{State, Process, changed_by, drawn, next_description, next_object, process_at}
+use Rattle.kern_model.specs.FileRows.{pipe_addition, has_free_descriptors, on_pipe, description_creation, pipe_creation, second_description}
+use Rattle.kern_model.specs.State.{State, Process, apply_changes, last_drawn, next_description, next_object, process_at}
 use Rattle.kern_model.proofs.KeyLaws.{pid_cmp_total, pid_cmp_exact}
 use Rattle.kern_model.proofs.MapLemmas.{get-insert_same, get_or-found}
 use Rattle.kern_model.proofs.StateLemmas.{process_is}
@@ -33,9 +33,9 @@ one_left p did free =
     le-leb _ _ (omega (arith, size, few, more, len-entries p.fds))
 
 -- the number after the next one
-pub drawn_after : (s : State) (l : Label) → drawn (map.insert s.description_numbers l (drawn s.description_numbers l + 1)) l + 1 ≡ drawn s.description_numbers l + 2
+pub drawn_after : (s : State) (l : Label) → last_drawn (map.insert s.description_numbers l (last_drawn s.description_numbers l + 1)) l + 1 ≡ last_drawn s.description_numbers l + 2
 drawn_after s l =
-    let n = drawn s.description_numbers l in
+    let n = last_drawn s.description_numbers l in
     ap (λ k. k + 1) (get_or-found (map.insert s.description_numbers l (n + 1)) l 0 (n + 1) (get-insert_same label_cmp_total s.description_numbers l (n + 1))) ∙ omega arith
 
 -- where two more may be counted, one may
@@ -45,24 +45,24 @@ one_less n most fits = let few = leb-true _ _ fits in le-leb _ _ (omega (arith, 
 module _ (s : State) (who : Pid) (p : Process) (id : Oid) where
   -- the state with the pipe, and then with the description for reading
   abbrev pub with_pipe : State
-  with_pipe = changed_by s (drawing_pipe s p)
+  with_pipe = apply_changes s (pipe_addition s p)
 
   abbrev pub first : Did
   first = next_description s p.label
 
   abbrev pub with_reader : State
-  with_reader = changed_by with_pipe (opening with_pipe who p id (end_flags true))
+  with_reader = apply_changes with_pipe (description_creation with_pipe who p id (end_flags true))
 
   abbrev pub with_both : State
-  with_both = changed_by with_reader (opening with_reader who (with_descriptor p first) id (end_flags false))
+  with_both = apply_changes with_reader (description_creation with_reader who (with_descriptor p first) id (end_flags false))
 
   pub reader_is : process_at with_reader who ≡ with_descriptor p first
   reader_is = process_is with_reader who (with_descriptor p first) (get-insert_same pid_cmp_total s.procs who (with_descriptor p first))
 
-  pub both_are : id ≡ next_object s p.label → with_both ≡ changed_by s (pipe_creation s who p)
+  pub both_are : id ≡ next_object s p.label → with_both ≡ apply_changes s (pipe_creation s who p)
   both_are is =
       let l = p.label in
-      let n = drawn s.description_numbers l in
+      let n = last_drawn s.description_numbers l in
       let last = drawn_after s l in
       let reader = with_descriptor p first in
       (λ i. record with_pipe {
@@ -77,6 +77,6 @@ module _ (s : State) (who : Pid) (p : Process) (id : Oid) where
       })
 
 -- a pipe is made, and then a description for reading
-pub reader_made : (s : State) (who : Pid) (id : Oid) {u v : State} {flags : OpenFlags} → u ≡ changed_by s (drawing_pipe s (process_at s who))
-    → v ≡ changed_by u (opening u who (process_at u who) id flags) → flags ≡ end_flags true → v ≡ with_reader s who (process_at s who) id
-reader_made s who id pipe reader same = reader ∙ (λ i. changed_by (pipe i) (opening (pipe i) who (process_at (pipe i) who) id (same i)))
+pub reader_made : (s : State) (who : Pid) (id : Oid) {u v : State} {flags : OpenFlags} → u ≡ apply_changes s (pipe_addition s (process_at s who))
+    → v ≡ apply_changes u (description_creation u who (process_at u who) id flags) → flags ≡ end_flags true → v ≡ with_reader s who (process_at s who) id
+reader_made s who id pipe reader same = reader ∙ (λ i. apply_changes (pipe i) (description_creation (pipe i) who (process_at (pipe i) who) id (same i)))

@@ -8,7 +8,7 @@ use Rattle.kern_model.specs.declared.numbers.Did.{Did}
 use Rattle.kern_model.specs.declared.limits.TheConstants.{MAX_DESCRIPTORS}
 use Rattle.kern_model.specs.declared.numbers.Oid.{Oid}
 use Rattle.kern_model.specs.declared.numbers.Pid.{Pid}
-use Rattle.kern_model.specs.Descriptors.{Opened, opened}
+use Rattle.kern_model.specs.Descriptors.{Opened, open_description}
 use Rattle.kern_model.specs.Row.{Row}
 use Rattle.kern_model.specs.State.{State, Process, Description, process_at, stub_process}
 use Rattle.chk_rules.specs.CheckLog.{CheckLog}
@@ -33,12 +33,12 @@ holds None there = let no : false ≡ true = there in absurd (cc)
 holds (Some x) there = record { value = x; is = refl }
 
 -- what is open for a caller is open
-pub open_of : {k : CallerView} {s : State} {who : Pid} (fd : ℕ) (f : Opened) → k ≡ caller_in s who → opened k.state k.process fd ≡ Some f → opened s (process_at s who) fd ≡ Some f
-open_of fd f same found = ap (λ (x : CallerView). opened x.state x.process fd) (sym same) ∙ found
+pub open_of : {k : CallerView} {s : State} {who : Pid} (fd : ℕ) (f : Opened) → k ≡ caller_in s who → open_description k.state k.process fd ≡ Some f → open_description s (process_at s who) fd ≡ Some f
+open_of fd f same found = ap (λ (x : CallerView). open_description x.state x.process fd) (sym same) ∙ found
 
 -- what a descriptor refers to is there
-pub described : (s : State) (p : Process) (fd : ℕ) (f : Opened) → opened s p fd ≡ Some f → map.get s.descriptions f.did ≡ Some f.description
-unfolding opened
+pub described : (s : State) (p : Process) (fd : ℕ) (f : Opened) → open_description s p fd ≡ Some f → map.get s.descriptions f.did ≡ Some f.description
+unfolding open_description
 described s p fd f =
     elim (map.get p.fds fd) as (λ w. option_and_then (λ did. option_map (λ (d : Description). record { did = did; description = d }) (map.get s.descriptions did)) w ≡ Some f → map.get s.descriptions f.did ≡ Some f.description) [
       | None ↦ λ h. absurd (never_some None f refl h)
@@ -50,13 +50,13 @@ described s p fd f =
     ]
 
 -- a process with a descriptor that is open is living
-pub opener_there : (s : State) (who : Pid) (fd : ℕ) (f : Opened) → opened s (process_at s who) fd ≡ Some f → map.get s.procs who ≡ Some (process_at s who)
-unfolding opened
+pub opener_there : (s : State) (who : Pid) (fd : ℕ) (f : Opened) → open_description s (process_at s who) fd ≡ Some f → map.get s.procs who ≡ Some (process_at s who)
+unfolding open_description
 opener_there s who fd f is =
     elim (map.get s.procs who) as (λ w. map.get s.procs who ≡ w → map.get s.procs who ≡ Some (process_at s who)) [
       | None ↦ λ none.
           let none_open = ap (option_and_then (λ did. option_map (λ (d : Description). record { did = did; description = d }) (map.get s.descriptions did))) (map.get-empty {X = Did} nat_cmp fd) in
-          absurd (never_some (opened s (process_at s who) fd) f (ap (λ (p : Process). opened s p fd) (get_or-absent s.procs who (stub_process s.top) none) ∙ none_open) is)
+          absurd (never_some (open_description s (process_at s who) fd) f (ap (λ (p : Process). open_description s p fd) (get_or-absent s.procs who (stub_process s.top) none) ∙ none_open) is)
       | Some p ↦ λ e. e ∙ ap (λ (x : Process). Some x) (sym (process_is s who p e))
     ] refl
 
@@ -65,7 +65,7 @@ pub caller_stands : (h : Inside) {s : State} → state_of h ≡ s → (who : Pid
 caller_stands h {s} is who living = stands_in h.procs.procs h.fds.processes who (process_at s who) (ap (λ (x : State). map.get x.procs who) is ∙ process_there s who living)
 
 -- What is open in a state stands in the tables that it is made of.
-module _ (h : Inside) {s : State} (is : state_of h ≡ s) (who : Pid) (fd : ℕ) (f : Opened) (found : opened s (process_at s who) fd ≡ Some f) where
+module _ (h : Inside) {s : State} (is : state_of h ≡ s) (who : Pid) (fd : ℕ) (f : Opened) (found : open_description s (process_at s who) fd ≡ Some f) where
   pub opener : StandsIn h.procs.procs h.fds.processes who (process_at s who)
   opener = stands_in h.procs.procs h.fds.processes who (process_at s who) (ap (λ (x : State). map.get x.procs who) is ∙ opener_there s who fd f found)
 

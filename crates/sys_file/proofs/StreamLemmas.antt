@@ -7,8 +7,8 @@ use Rattle.kern_model.specs.declared.calls.Errno.TheVariants.{EAGAIN, EPIPE}
 use Rattle.kern_model.specs.declared.limits.TheConstants.{MAX_PIPE_BYTES}
 use Rattle.kern_model.specs.declared.objects.Object.{Object}
 use Rattle.kern_model.specs.Descriptors.{Opened, any_open}
-use Rattle.kern_model.specs.FileRows.{comes_out, into_stream, open_object, putting}
-use Rattle.kern_model.specs.State.{State, SetObject, changed}
+use Rattle.kern_model.specs.FileRows.{comes_out, into_stream, open_object, put_in_stream}
+use Rattle.kern_model.specs.State.{State, SetObject, apply_change}
 use Rattle.chk_rules.specs.CheckLog.{CheckLog}
 use Rattle.chk_rules.specs.declared.stop.Stop.TheVariants as stop
 use Rattle.fd_table.specs.Pipes.{is_no_memory}
@@ -54,7 +54,7 @@ module _ {r : Result ⊤ PipeError} where
 module _ (s : State) (log : CheckLog) (f : Opened) (o : Object) (there : map.get s.objects f.description.object ≡ Some o) where
   -- the objects with other bytes in the stream
   abbrev bytes_set : List ℕ → State
-  bytes_set bytes = changed s (SetObject f.description.object (record o { bytes = bytes }))
+  bytes_set bytes = apply_change s (SetObject f.description.object (record o { bytes = bytes }))
 
   -- ---- bytes come out
 
@@ -79,17 +79,17 @@ module _ (s : State) (log : CheckLog) (f : Opened) (o : Object) (there : map.get
   abbrev is_over : List ℕ → Bool
   is_over bytes = nat_lt MAX_PIPE_BYTES (length o.bytes + length bytes)
 
-  pub put : (bytes : List ℕ) (t : State) → is_read ≡ true → is_over bytes ≡ false → t ≡ bytes_set (o.bytes ++ bytes) → PlaysRow s log (putting s f bytes) (Ok (record { answer = answer.Number (length bytes); own = None })) t log
+  pub put : (bytes : List ℕ) (t : State) → is_read ≡ true → is_over bytes ≡ false → t ≡ bytes_set (o.bytes ++ bytes) → PlaysRow s log (put_in_stream s f bytes) (Ok (record { answer = answer.Number (length bytes); own = None })) t log
   put bytes t reads fits made =
       subst (λ x. PlaysRow s log (into_stream s bytes f x) (Ok (record { answer = answer.Number (length bytes); own = None })) t log) (sym (object_is s f.description.object o there))
       (refuse_plays (lets_on (ap not reads))
       (refuse_plays (lets_on fits)
       (commits s t log (SetObject f.description.object (record o { bytes = o.bytes ++ bytes }) ∷ []) (answer.Number (length bytes)) None made)))
 
-  pub breaks : (bytes : List ℕ) (t : State) → is_read ≡ false → t ≡ s → PlaysRow s log (putting s f bytes) (Err (stop.Refused EPIPE)) t log
+  pub breaks : (bytes : List ℕ) (t : State) → is_read ≡ false → t ≡ s → PlaysRow s log (put_in_stream s f bytes) (Err (stop.Refused EPIPE)) t log
   breaks bytes t reads same = refuse_stops_row (Err (stop.Refused EPIPE)) refl same (refuses (ap not reads))
 
-  pub full : (bytes : List ℕ) (t : State) → is_read ≡ true → is_over bytes ≡ true → t ≡ s → PlaysRow s log (putting s f bytes) (Err (stop.Refused EAGAIN)) t log
+  pub full : (bytes : List ℕ) (t : State) → is_read ≡ true → is_over bytes ≡ true → t ≡ s → PlaysRow s log (put_in_stream s f bytes) (Err (stop.Refused EAGAIN)) t log
   full bytes t reads over same =
       subst (λ x. PlaysRow s log (into_stream s bytes f x) (Err (stop.Refused EAGAIN)) t log) (sym (object_is s f.description.object o there))
       (refuse_plays (lets_on (ap not reads))

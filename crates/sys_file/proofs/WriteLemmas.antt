@@ -12,7 +12,7 @@ use Rattle.kern_model.specs.declared.numbers.Pid.{Pid}
 use Rattle.cap_bits.specs.CapSet.{no_caps}
 use Rattle.lab_lattice.specs.Label.{bottom}
 use Rattle.kern_model.specs.Row.{Row, Refuse}
-use Rattle.kern_model.specs.State.{State, Change, changed}
+use Rattle.kern_model.specs.State.{State, Change, apply_change}
 use Rattle.chk_rules.specs.CheckLog.{CheckLog, check_log}
 use Rattle.chk_rules.specs.RowSteps.{GoesOn}
 use Rattle.chk_rules.specs.declared.stop.Stop.{Stop}
@@ -36,12 +36,12 @@ module _ (s : State) (bytes : List ℕ) (f : Opened) (o : Object) (at : ℕ) (a 
   keeping attr = move_after bytes f at (put_in bytes f o at attr ∷ [])
 
   -- no byte is written
-  pub none_written : (t : State) → length bytes == 0 ≡ true → t ≡ changed s after → PlaysRow s a (writes_at bytes f o at) counted t a
+  pub none_written : (t : State) → length bytes == 0 ≡ true → t ≡ apply_change s after → PlaysRow s a (writes_at bytes f o at) counted t a
   none_written t none made = plays_where _ none (commits s t a (after ∷ []) (answer.Number (length bytes)) None made)
 
   -- some are, with the attributes that the file keeps
   pub some_written : (b : CheckLog) (attr : Attr) (t : State) → length bytes == 0 ≡ false → GoesOn a (keeps_attr f.description.object Handle o) (Ok attr) b
-      → t ≡ changed (changed s (put_in bytes f o at attr)) after → PlaysRow s a (writes_at bytes f o at) counted t b
+      → t ≡ apply_change (apply_change s (put_in bytes f o at attr)) after → PlaysRow s a (writes_at bytes f o at) counted t b
   some_written b attr t some step made =
       plays_else _ some (then_plays {rest = keeping} step (commits s t b (put_in bytes f o at attr ∷ after ∷ []) (answer.Number (length bytes)) None made))
 

@@ -1,7 +1,7 @@
 -- Descriptors that are open.
 use Rattle.std.specs.Prelude.{◌≡◌, ℕ, Some, IsSome, Result}
 use Rattle.kern_model.specs.declared.numbers.Pid.{Pid}
-use Rattle.kern_model.specs.Descriptors.{Opened, opened}
+use Rattle.kern_model.specs.Descriptors.{Opened, open_description}
 use Rattle.kern_model.specs.FileRows.{lseek_row}
 use Rattle.kern_model.specs.Row.{Row}
 use Rattle.kern_model.specs.State.{State, process_at}
@@ -13,11 +13,11 @@ use Rattle.sys_file.specs.declared.descriptors.Seek.{Seek}
 
 -- this is what a descriptor of a process refers to
 abbrev pub RefersTo : State → Pid → ℕ → Opened → Type 0
-RefersTo s who fd f = opened s (process_at s who) fd ≡ Some f
+RefersTo s who fd f = open_description s (process_at s who) fd ≡ Some f
 
 -- a descriptor of a process refers to something
 abbrev pub IsOpen : State → Pid → ℕ → Type 0
-IsOpen s who fd = IsSome (opened s (process_at s who) fd)
+IsOpen s who fd = IsSome (open_description s (process_at s who) fd)
 
 -- without a check a body plays the row of what a descriptor of a process refers to
 abbrev pub PlaysOpened : State → Pid → ℕ → (Opened → Row) → Result Effect Stop → State → Type 0

@@ -6,5 +6,5 @@ use Rattle.kern_model.specs.FileRows.{content_change, written_over}
 use Rattle.kern_model.specs.State.{State, Change, object_at}
 
 -- the change of a file that gets a piece at a place, and these attributes
-abbrev pub overwritten : State → Oid → ℕ → List ℕ → Attr → Change
-overwritten s id at bytes attr = content_change id (object_at s id) (written_over (object_at s id).bytes at bytes) attr
+abbrev pub overwrite_change : State → Oid → ℕ → List ℕ → Attr → Change
+overwrite_change s id at bytes attr = content_change id (object_at s id) (written_over (object_at s id).bytes at bytes) attr

@@ -1,6 +1,6 @@
 // The descriptors that `read` and `write` take.
 ghost use Rattle.std.specs.Prelude.{◌≡◌, Some, IfOk};
-ghost use Rattle.kern_model.specs.Descriptors.{opened};
+ghost use Rattle.kern_model.specs.Descriptors.{open_description};
 ghost use Rattle.chk_rules.specs.RowSteps.{GoesOn};
 ghost use Rattle.sys_lookup.specs.Shared.{metadata_of};
 ghost use Rattle.sys_file.specs.Access.{access_object, is_open_for, opened_for};
@@ -26,7 +26,7 @@ pub fn opened_for(
     access: Access,
 ) -> Result<(Opened, Metadata), Stop>
     ensures step { GoesOn checks.old (opened_for access caller.now.state caller.now.process fd) result checks.new }
-    ensures found { IfOk result (λ r. opened caller.now.state caller.now.process fd ≡ Some r.0) }
+    ensures found { IfOk result (λ r. open_description caller.now.state caller.now.process fd ≡ Some r.0) }
     ensures object { IfOk result (λ r. r.1 ≡ metadata_of caller.now.state r.0.description.object) }
 {
     let opened = caller.opened(fd)?;

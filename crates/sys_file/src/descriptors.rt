@@ -1,10 +1,10 @@
 // The calls `close`, `dup`, `lseek` and `fstat`.
 ghost use Rattle.std.specs.Prelude.{◌≡◌, ◌≤◌, ◌+ℤ◌, ℕ, ℤ, pos, None, Some, IfOk, IsSome, false, true, length};
 ghost use Rattle.std.specs.FinMap as map;
-ghost use Rattle.kern_model.specs.Descriptors.{opened};
+ghost use Rattle.kern_model.specs.Descriptors.{open_description};
 ghost use Rattle.kern_model.specs.FileRows.{base_of, close_row, closes, dup_row, fstat_row, moves, open_object, opened_to_seek, repeat};
 ghost use Rattle.kern_model.specs.Kinds.{is_stream};
-ghost use Rattle.kern_model.specs.State.{State, changed_by, object_at, process_at};
+ghost use Rattle.kern_model.specs.State.{State, apply_changes, object_at, process_at};
 ghost use Rattle.kern_model.specs.Valid.{IsValid};
 ghost use Rattle.kern_model.specs.declared.limits.TheConstants.{MAX_FILE_BYTES};
 ghost use Rattle.kern_model.specs.declared.numbers.Pid.{Pid as Number};
@@ -36,7 +36,7 @@ pub fn close(shared: &mut Shared, who: &Pid, fd: Fd) -> CallResult
 fn close_open(shared: &mut Shared, who: &Pid, fd: Fd)
     requires valid { ∥ IsValid shared.old ∥₁ }
     requires open { IsOpen shared.old who.now fd }
-    ensures { shared.new ≡ changed_by shared.old (closes shared.old who.now (process_at shared.old who.now) fd) }
+    ensures { shared.new ≡ apply_changes shared.old (closes shared.old who.now (process_at shared.old who.now) fd) }
 {
     if shared.fds.close(who, fd, &mut shared.tree).is_err() {
         unreachable!();
@@ -121,7 +121,7 @@ fn sum(base: u32, offset: i64) -> Option<i64>
 // What `lseek` moves in: a descriptor on an object that the caller may read by label, and that has offsets.
 fn opened_to_seek(caller: &Caller<'_>, checks: &mut Checks, fd: Fd) -> Result<Opened, Stop>
     ensures step { GoesOn checks.old (opened_to_seek caller.now.state caller.now.process fd) result checks.new }
-    ensures found { IfOk result (λ f. opened caller.now.state caller.now.process fd ≡ Some f) }
+    ensures found { IfOk result (λ f. open_description caller.now.state caller.now.process fd ≡ Some f) }
     ensures no_stream { IfOk result (λ f. is_stream (open_object caller.now.state f).kind ≡ false) }
 {
     let opened = caller.opened(fd)?;

@@ -4,11 +4,10 @@ ghost use Rattle.std.specs.FinMap as map;
 ghost use Rattle.kern_model.specs.Arguments.{are_names};
 ghost use Rattle.kern_model.specs.Descriptors.{lowest_free};
 ghost use Rattle.kern_model.specs.Entries.{is_removed};
-ghost use Rattle.kern_model.specs.FileRows.{has_descriptions, has_free_descriptors, opening, content_change};
+ghost use Rattle.kern_model.specs.FileRows.{has_descriptions, has_free_descriptors, description_creation, content_change};
 ghost use Rattle.kern_model.specs.Kinds.{is_fifo, is_file};
-ghost use Rattle.kern_model.specs.OpenRows.{allowed_by_kind, emptying, to_absent, to_emptied, to_present};
-ghost use Rattle.kern_model.specs.Row.{need_if};
-ghost use Rattle.kern_model.specs.State.{State, changed, changed_by, look, object_at, process_at};
+ghost use Rattle.kern_model.specs.OpenRows.{allowed_by_kind, truncation_if, to_absent, to_emptied, to_present};
+ghost use Rattle.kern_model.specs.State.{State, apply_change, apply_changes, look, object_at, process_at};
 ghost use Rattle.kern_model.specs.Valid.{IsDir, IsValid};
 ghost use Rattle.kern_model.specs.declared.numbers.Oid.{Oid as Number};
 ghost use Rattle.kern_model.specs.declared.objects.Object.{Object};
@@ -24,13 +23,10 @@ ghost use Rattle.sys_file.specs.Opening.{CanBeEmptied, EmptiesFiles, opens_file,
 use chk_rules::{Checks, Stop, refuse_if};
 use fd_table::{FdError, How};
 use kern_model::{
-    Answer, Attr, Body, ByteList, Check, Errno, Fd, Kind, Mode, NoMemory, Oid, OpenFlags, Path,
-    Pid, Place,
+    Answer, Attr, Body, ByteList, Errno, Fd, Kind, Mode, NoMemory, Oid, OpenFlags, Path, Pid, Place,
 };
 use std::alloc::Global;
-use sys_lookup::{
-    CallResult, Caller, Effect, Found, Metadata, PathArgument, Shared, Spot, create, must_if,
-};
+use sys_lookup::{CallResult, Caller, Effect, Found, Metadata, PathArgument, Shared, Spot, create};
 
 /// What `open` is asked for: a path, flags, and the mode of a file that is made, before the caller's umask.
 #[derive(Clone, Copy)]
@@ -106,33 +102,12 @@ fn may_open(
 {
     let object = caller.metadata(id);
     refuse_if(both(flags.c, flags.x), Errno::EEXIST)?;
-    must_for(
-        flags,
-        checks,
-        &caller.mac_read_check(&object, place),
-        &caller.mac_write_check(&object, place),
-    )?;
+    caller.mac_read_if(flags.r, checks, &object, place)?;
+    caller.mac_write_if(flags.w, checks, &object, place)?;
     kind_allows(caller, checks, flags, &object, place)?;
-    must_for(
-        flags,
-        checks,
-        &caller.dac_read_check(&object, place),
-        &caller.dac_write_check(&object, place),
-    )?;
+    caller.dac_read_if(flags.r, checks, &object, place)?;
+    caller.dac_write_if(flags.w, checks, &object, place)?;
     emptied_attr(caller, checks, flags, &object, place)
-}
-
-// Makes the check of what is opened for reading, and the check of what is opened for writing.
-fn must_for(
-    flags: OpenFlags,
-    checks: &mut Checks,
-    reading: &Check,
-    writing: &Check,
-) -> Result<(), Stop>
-    ensures { GoesOn checks.old (λ rest. need_if flags.r reading.now (need_if flags.w writing.now (rest tt))) result checks.new }
-{
-    must_if(flags.r, checks, reading)?;
-    must_if(flags.w, checks, writing)
 }
 
 // Checks that an object is of a kind that the caller may open so.
@@ -148,7 +123,7 @@ fn kind_allows(
     refuse_if(object.is_directory(), Errno::EISDIR)?;
     let drains = both(is_fifo(object.kind), flags.r);
     refuse_if(both(drains, flags.w), Errno::EINVAL)?;
-    must_if(drains, checks, &caller.mac_write_check(object, place))
+    caller.mac_write_if(drains, checks, object, place)
 }
 
 // The attributes with which a file is emptied, if it is.
@@ -244,7 +219,7 @@ pub fn describe(shared: &mut Shared, who: &Pid, id: &Oid, flags: OpenFlags) -> R
     requires left { has_descriptions shared.old (process_at shared.old who.now) 1 ≡ true }
     ensures fd { IfOk result (λ fd. fd ≡ lowest_free (process_at shared.old who.now).fds) }
     ensures objects { shared.new.objects ≡ shared.old.objects }
-    ensures described { OnOk result (shared.new ≡ changed_by shared.old (opening shared.old who.now (process_at shared.old who.now) id.now flags)) }
+    ensures described { OnOk result (shared.new ≡ apply_changes shared.old (description_creation shared.old who.now (process_at shared.old who.now) id.now flags)) }
 {
     let label = Caller::new(shared, who).label();
     shared.fds.reserve(who)?;
@@ -278,7 +253,7 @@ fn how(flags: OpenFlags) -> How
 // Empties an object with these attributes, if it is to be emptied. It takes no memory.
 fn set_content(shared: &mut Shared, id: &Oid, emptied: Option<Attr>)
     requires { CanBeEmptied shared.old id.now emptied }
-    ensures { shared.new ≡ changed_by shared.old (emptying id.now (object_at shared.old id.now) emptied) }
+    ensures { shared.new ≡ apply_changes shared.old (truncation_if id.now (object_at shared.old id.now) emptied) }
 {
     match emptied {
         None => (),
@@ -289,7 +264,7 @@ fn set_content(shared: &mut Shared, id: &Oid, emptied: Option<Attr>)
 // Empties a file, and gives it other attributes. It takes no memory.
 fn empty(shared: &mut Shared, id: &Oid, attr: Attr)
     requires { IsFile shared.old.objects id.now }
-    ensures { (o : Object) → map.get shared.old.objects id.now ≡ Some o → shared.new ≡ changed shared.old (content_change id.now o [] attr) }
+    ensures { (o : Object) → map.get shared.old.objects id.now ≡ Some o → shared.new ≡ apply_change shared.old (content_change id.now o [] attr) }
 {
     shared.tree.truncate(id);
     shared.tree.set_attr(id, attr);

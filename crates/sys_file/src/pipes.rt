@@ -3,8 +3,8 @@ ghost use Rattle.std.specs.Prelude.{◌≡◌, None, IfOk, IsSome, OnOk, true};
 ghost use Rattle.std.specs.FinMap as map;
 ghost use Rattle.kern_model.specs.Arguments.{are_names};
 ghost use Rattle.kern_model.specs.Create.{has_object_number};
-ghost use Rattle.kern_model.specs.FileRows.{both_ends, drawing_pipe, has_descriptions, has_free_descriptors, pipe_row, pipe_creation};
-ghost use Rattle.kern_model.specs.State.{changed_by, next_object, process_at};
+ghost use Rattle.kern_model.specs.FileRows.{both_ends, pipe_addition, has_descriptions, has_free_descriptors, pipe_row, pipe_creation};
+ghost use Rattle.kern_model.specs.State.{apply_changes, next_object, process_at};
 ghost use Rattle.kern_model.specs.TreeRows.{mkfifo_row};
 ghost use Rattle.kern_model.specs.Valid.{IsValid};
 ghost use Rattle.chk_rules.specs.CheckLog.{CheckLog};
@@ -12,7 +12,7 @@ ghost use Rattle.sys_lookup.specs.PlaysRow.{PlaysCall, PlaysRow};
 ghost use Rattle.sys_file.specs.PipeEnds.{end_flags};
 
 use crate::opening::describe;
-use cap_bits::CapState;
+use cap_bits::FileCaps;
 use chk_rules::{Checks, refuse_if};
 use kern_model::{Answer, Attr, Body, Errno, Mode, Oid, OpenFlags, Path, Pid};
 use sys_lookup::{CallResult, Caller, Effect, NewObject, NoMemory, Shared, make};
@@ -56,7 +56,7 @@ fn make_pipe(shared: &mut Shared, who: &Pid) -> Result<Effect, NoMemory>
     requires free { has_free_descriptors (process_at shared.old who.now) 2 ≡ true }
     requires left { has_descriptions shared.old (process_at shared.old who.now) 2 ≡ true }
     ensures answer { IfOk result (λ effect. effect ≡ record { answer = both_ends shared.old (process_at shared.old who.now); own = None }) }
-    ensures piped { OnOk result (shared.new ≡ changed_by shared.old (pipe_creation shared.old who.now (process_at shared.old who.now))) }
+    ensures piped { OnOk result (shared.new ≡ apply_changes shared.old (pipe_creation shared.old who.now (process_at shared.old who.now))) }
 {
     let id = create_pipe(shared, who)?;
     let reader = describe(shared, who, &id, end_flags(true))?;
@@ -69,7 +69,7 @@ fn create_pipe(shared: &mut Shared, who: &Pid) -> Result<Oid, NoMemory>
     requires living { IsSome (map.get shared.old.procs who.now) }
     requires number { has_object_number shared.old (process_at shared.old who.now).label ≡ true }
     ensures id { IfOk result (λ id. id ≡ next_object shared.old (process_at shared.old who.now).label) }
-    ensures made { OnOk result (shared.new ≡ changed_by shared.old (drawing_pipe shared.old (process_at shared.old who.now))) }
+    ensures made { OnOk result (shared.new ≡ apply_changes shared.old (pipe_addition shared.old (process_at shared.old who.now))) }
 {
     let caller = Caller::new(shared, who);
     let creds = caller.creds();
@@ -77,7 +77,7 @@ fn create_pipe(shared: &mut Shared, who: &Pid) -> Result<Oid, NoMemory>
         owner: creds.ids.euid,
         group: creds.ids.egid,
         mode: 0o600,
-        caps: CapState::none(),
+        caps: FileCaps::none(),
     };
     let label = caller.label();
     shared.create(label, attr, Body::Pipe)

@@ -3,7 +3,8 @@ ghost use Rattle.std.specs.Prelude.{◌≡◌, IsSome, true};
 ghost use Rattle.std.specs.FinMap as map;
 ghost use Rattle.kern_model.specs.Arguments.{has_names};
 ghost use Rattle.kern_model.specs.Valid.{IsValid};
-ghost use Rattle.sys_lookup.specs.CallRows.{LeavesNothingOf, PlaysRowOf};
+ghost use Rattle.kern_model.specs.Table.{row};
+ghost use Rattle.sys_lookup.specs.PlaysRow.{LeavesNothingOf, PlaysCall};
 ghost use Rattle.sys_file.specs.Playing.{is_file_call};
 
 use crate::descriptors::{Seek, close, dup, fstat, lseek};
@@ -29,7 +30,7 @@ pub fn play(
     requires call { is_file_call call.now ≡ true }
     requires valid { ∥ IsValid shared.old ∥₁ }
     requires living { IsSome (map.get shared.old.procs who.now) }
-    ensures played { PlaysRowOf shared.old who.now call.now checks.old result shared.new checks.new }
+    ensures played { PlaysCall shared.old who.now checks.old (λ s who p. row s who p call.now) result shared.new checks.new }
     ensures names { has_names call.now ≡ true }
     ensures nothing { LeavesNothingOf call.now result }
 {

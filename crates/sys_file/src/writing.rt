@@ -1,9 +1,9 @@
 // The call `write`.
 ghost use Rattle.std.specs.Prelude.{◌≡◌, ◌+◌, ◌≤◌, ℕ, None, Some, IfOk, IsSome, OnOk, length};
 ghost use Rattle.std.specs.FinMap as map;
-ghost use Rattle.kern_model.specs.Descriptors.{Opened as Description, opened};
-ghost use Rattle.kern_model.specs.FileRows.{offset_change, open_object, place_in, putting, to_place, write_row};
-ghost use Rattle.kern_model.specs.State.{changed, object_at, process_at};
+ghost use Rattle.kern_model.specs.Descriptors.{Opened as Description, open_description};
+ghost use Rattle.kern_model.specs.FileRows.{offset_change, open_object, place_in, put_in_stream, to_place, write_row};
+ghost use Rattle.kern_model.specs.State.{apply_change, object_at, process_at};
 ghost use Rattle.kern_model.specs.Valid.{IsValid};
 ghost use Rattle.kern_model.specs.declared.calls.Answer.TheVariants as answer;
 ghost use Rattle.kern_model.specs.declared.limits.TheConstants.{MAX_FILE_BYTES};
@@ -14,7 +14,7 @@ ghost use Rattle.chk_rules.specs.RowSteps.{GoesOn};
 ghost use Rattle.fs_nodes.specs.Nodes.{IsFile, IsStream};
 ghost use Rattle.sys_lookup.specs.PlaysRow.{PlaysRow};
 ghost use Rattle.sys_file.specs.Descriptors.{IsOpen, RefersTo};
-ghost use Rattle.sys_file.specs.Writing.{overwritten};
+ghost use Rattle.sys_file.specs.Writing.{overwrite_change};
 
 use crate::access::{Access, opened_for};
 use crate::offsets::set_offset;
@@ -54,7 +54,7 @@ pub fn write(
 // Puts bytes at the end of a pipe or FIFO.
 fn write_stream(shared: &mut Shared, opened: &Opened, bytes: &[u8]) -> CallResult
     requires { IsStream shared.old.objects opened.now.description.object }
-    ensures { (log : CheckLog) → PlaysRow shared.old log (putting shared.old opened.now bytes.now) result shared.new log }
+    ensures { (log : CheckLog) → PlaysRow shared.old log (put_in_stream shared.old opened.now bytes.now) result shared.new log }
 {
     match shared.fds.pipe_put(&mut shared.tree, &opened.object, bytes) {
         Ok(()) => Ok(Effect::answers(Answer::Number(bytes.len() as u32))),
@@ -101,8 +101,8 @@ fn overwrite(
     requires file { IsFile shared.old.objects id.now }
     requires within { at ≤ length (object_at shared.old id.now).bytes }
     requires few { at + length bytes.now ≤ MAX_FILE_BYTES }
-    ensures open { (who : Number) (fd : ℕ) → opened shared.new (process_at shared.new who) fd ≡ opened shared.old (process_at shared.old who) fd }
-    ensures written { OnOk result (shared.new ≡ changed shared.old (overwritten shared.old id.now at bytes.now attr)) }
+    ensures open { (who : Number) (fd : ℕ) → open_description shared.new (process_at shared.new who) fd ≡ open_description shared.old (process_at shared.old who) fd }
+    ensures written { OnOk result (shared.new ≡ apply_change shared.old (overwrite_change shared.old id.now at bytes.now attr)) }
 {
     match shared.tree.write_at(id, at, bytes) {
         Ok(()) => {
@@ -119,7 +119,7 @@ fn overwrite(
 fn move_after(shared: &mut Shared, who: &Pid, fd: Fd, at: u32, bytes: &[u8]) -> Effect
     requires open { IsOpen shared.old who.now fd }
     requires few { at + length bytes.now ≤ MAX_FILE_BYTES }
-    ensures moved { (f : Description) → RefersTo shared.old who.now fd f → shared.new ≡ changed shared.old (offset_change f (at + length bytes.now)) }
+    ensures moved { (f : Description) → RefersTo shared.old who.now fd f → shared.new ≡ apply_change shared.old (offset_change f (at + length bytes.now)) }
     ensures effect { result ≡ record { answer = answer.Number (length bytes.now); own = None } }
 {
     let count = bytes.len() as u32;

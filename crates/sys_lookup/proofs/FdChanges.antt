@@ -9,12 +9,12 @@ use Rattle.kern_model.specs.declared.numbers.Pid.{Pid}
 use Rattle.kern_model.specs.Descriptors.{with_descriptor}
 use Rattle.kern_model.specs.Keys.{pid_cmp, same_pid}
 use Rattle.kern_model.specs.Maps.{select}
-use Rattle.kern_model.specs.State.{State, Process, Description, DrawDescription, SetDescription, SetProcess, changed_by, drawn}
+use Rattle.kern_model.specs.State.{State, Process, Description, DrawDescription, SetDescription, SetProcess, apply_changes, last_drawn}
 use Rattle.kern_model.proofs.KeyLaws.{pid_cmp_total, pid_cmp_exact}
 use Rattle.kern_model.proofs.MapLemmas.{get_or-found, get_or-same, same_key}
 use Rattle.fd_table.specs.Files.{OpenFiles, next_in, with_lowest, with_opened}
 use Rattle.fd_table.specs.Fds.{AllFds, Fds, fds_of}
-use Rattle.sys_lookup.specs.Shared.{holding, with_fds}
+use Rattle.sys_lookup.specs.Shared.{process_with_fds, with_fds}
 use Rattle.sys_lookup.proofs.FdLemmas.{get-with_fds}
 
 module _ (procs : FinMap pid_cmp Process) (rows : AllFds) where
@@ -31,7 +31,7 @@ module _ (procs : FinMap pid_cmp Process) (rows : AllFds) where
       let elsewhere = λ (r : Pid) (other : same_pid r who ≡ false). get_or-same others rows r map.empty (get-insert pid_cmp_total rows who fds r ∙ ap (λ b. cond b (Some fds) (map.get rows r)) other) in
       same_map pid_cmp_total pid_cmp_exact _ _ (λ r.
       get-with_fds procs others r
-      ∙ elim (same_pid r who) as (λ b. same_pid r who ≡ b → option_map (holding others r) (map.get procs r) ≡ cond b (Some (record q { fds = fds })) (map.get (with_fds procs rows) r)) [
+      ∙ elim (same_pid r who) as (λ b. same_pid r who ≡ b → option_map (process_with_fds others r) (map.get procs r) ≡ cond b (Some (record q { fds = fds })) (map.get (with_fds procs rows) r)) [
         | true ↦ λ same.
             (λ i. option_map (λ (p : Process). record p { fds = here r same i }) (map.get procs r))
             ∙ ap (option_map (λ (p : Process). record p { fds = fds })) (ap (map.get procs) (same_key pid_cmp_exact r who same) ∙ there)
@@ -52,15 +52,15 @@ pub record ShowTheSame (t u : OpenFiles) : Type 0 where
 -- a description is made, with the lowest free descriptor of a process
 pub opened_shows : (s : State) (procs : FinMap pid_cmp Process) (t u : OpenFiles) → ShowTheSame t u → (who : Pid) (q : Process) → map.get procs who ≡ Some q → (l : Label) (d : Description)
     → with_files s procs (with_opened u who l d)
-    ≡ changed_by (with_files s procs t)
-    (DrawDescription l (drawn t.numbers l + 1)
+    ≡ apply_changes (with_files s procs t)
+    (DrawDescription l (last_drawn t.numbers l + 1)
     ∷ SetDescription (next_in t l) d
-    ∷ SetProcess who (with_descriptor (holding t.processes who q) (next_in t l)) ∷ [])
+    ∷ SetProcess who (with_descriptor (process_with_fds t.processes who q) (next_in t l)) ∷ [])
 opened_shows s procs t u same who q there l d =
-    ap (λ (m : FinMap pid_cmp Process). record s { procs = m; descriptions = map.insert u.descriptions (next_in u l) d; description_numbers = map.insert u.numbers l (drawn u.numbers l + 1) })
+    ap (λ (m : FinMap pid_cmp Process). record s { procs = m; descriptions = map.insert u.descriptions (next_in u l) d; description_numbers = map.insert u.numbers l (last_drawn u.numbers l + 1) })
     (with_fds-row procs u.processes who q (with_lowest (fds_of u.processes who) (next_in u l)) there)
     ∙ (λ i. record s {
-      procs = map.insert (with_fds-same procs t.processes u.processes same.processes i) who (record q { fds = with_lowest (same.processes who i) (record { label = l; n = drawn (same.numbers i) l + 1 }) });
-      descriptions = map.insert (same.descriptions i) (record { label = l; n = drawn (same.numbers i) l + 1 }) d;
-      description_numbers = map.insert (same.numbers i) l (drawn (same.numbers i) l + 1);
+      procs = map.insert (with_fds-same procs t.processes u.processes same.processes i) who (record q { fds = with_lowest (same.processes who i) (record { label = l; n = last_drawn (same.numbers i) l + 1 }) });
+      descriptions = map.insert (same.descriptions i) (record { label = l; n = last_drawn (same.numbers i) l + 1 }) d;
+      description_numbers = map.insert (same.numbers i) l (last_drawn (same.numbers i) l + 1);
     })

@@ -13,12 +13,12 @@ use Rattle.kern_model.specs.declared.objects.Attr.{Attr}
 use Rattle.kern_model.specs.declared.objects.Body.{Body}
 use Rattle.kern_model.specs.declared.objects.Kind.TheVariants as kind
 use Rattle.kern_model.specs.declared.objects.Object.{Object}
-use Rattle.kern_model.specs.Create.{drawing}
+use Rattle.kern_model.specs.Create.{object_addition}
 use Rattle.kern_model.specs.Entries.{link_count}
 use Rattle.kern_model.specs.Keys.{Spot, same_oid}
 use Rattle.kern_model.specs.Kinds.{kind_of, object_with}
 use Rattle.kern_model.specs.Row.{Row, Refuse}
-use Rattle.kern_model.specs.State.{State, changed_by, next_object}
+use Rattle.kern_model.specs.State.{State, apply_changes, next_object}
 use Rattle.kern_model.specs.Valid.{IsDir, IsValid}
 use Rattle.kern_model.proofs.KeyLaws.{oid_cmp_total, oid_cmp_exact, spot_cmp_total, spot_cmp_exact}
 use Rattle.kern_model.proofs.MapLemmas.{count_entries-none, get-insert_kept, get-insert_same, never_some, same_key}
@@ -50,7 +50,7 @@ module _ (s : State) (valid : ∥ IsValid s ∥₁) (label : Label) (attr : Attr
 
   -- the state once it is there
   abbrev pub after : State
-  after = changed_by s (drawing s label made)
+  after = apply_changes s (object_addition s label made)
 
   none_there : map.get s.objects new ≡ None
   none_there = absent_where (map.get s.objects new) (∥∥₁_map valid (λ v. next_absent s v label))

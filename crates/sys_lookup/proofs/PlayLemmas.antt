@@ -9,7 +9,7 @@ use Rattle.kern_model.specs.declared.numbers.Pid.{Pid}
 use Rattle.kern_model.specs.declared.records.Rec.{Rec}
 use Rattle.kern_model.specs.declared.checks.Check.{Check}
 use Rattle.kern_model.specs.Row.{Row, Need, Refuse, Fail, Commit}
-use Rattle.kern_model.specs.State.{State, Change, changed_by}
+use Rattle.kern_model.specs.State.{State, Change, apply_changes}
 use Rattle.kern_model.proofs.RowLemmas.{judge-fail, judge-give}
 use Rattle.chk_rules.specs.CheckLog.{CheckLog, judge_from}
 use Rattle.chk_rules.specs.RowSteps.{EndsBy, GoesOn}
@@ -99,7 +99,7 @@ unfolding EndsBy Keeps
 fails_row s t log e same = record { completes = tt; ends = judge-fail log.subject log.used e; keeps = same }
 
 -- the row ends, and its changes are made
-pub commits : (s t : State) (log : CheckLog) (changes : List Change) (answer : Answer) (own : Option Rec) → t ≡ changed_by s changes → PlaysRow s log (Commit changes answer own) (Ok (record { answer = answer; own = own })) t log
+pub commits : (s t : State) (log : CheckLog) (changes : List Change) (answer : Answer) (own : Option Rec) → t ≡ apply_changes s changes → PlaysRow s log (Commit changes answer own) (Ok (record { answer = answer; own = own })) t log
 commits s t log changes answer own made = record {
   completes = record { changes = changes; ends = judge-give _ _ _ _ _; state = made };
   ends = tt;
@@ -115,7 +115,7 @@ pub equal_record : {s t : State} {a b : CheckLog} {r : Result Effect Stop} {chan
 equal_record {s = s} {t = t} {a = a} {b = b} {r = r} {changes = changes} {answer = answer} same plays = subst (λ x. PlaysRow s a (Commit changes answer x) r t b) same plays
 
 -- the row ends with this effect, and its changes are made
-pub commits_as : {s t : State} {log : CheckLog} {changes : List Change} {answer : Answer} {own : Option Rec} {effect : Effect} → effect ≡ record { answer = answer; own = own } → t ≡ changed_by s changes → PlaysRow s log (Commit changes answer own) (Ok effect) t log
+pub commits_as : {s t : State} {log : CheckLog} {changes : List Change} {answer : Answer} {own : Option Rec} {effect : Effect} → effect ≡ record { answer = answer; own = own } → t ≡ apply_changes s changes → PlaysRow s log (Commit changes answer own) (Ok effect) t log
 commits_as {s = s} {t = t} {log = log} {changes = changes} {answer = answer} {own = own} same made = subst (λ e. PlaysRow s log (Commit changes answer own) (Ok e) t log) (sym same) (commits s t log changes answer own made)
 
 -- a caller is the living process with its number, and so its row is that of this process

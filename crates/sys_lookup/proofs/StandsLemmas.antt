@@ -4,9 +4,9 @@ use Rattle.std.specs.Option.{option_and_then, option_map}
 use Rattle.std.specs.FinMap as map
 use Rattle.std.proofs.Common.{ap, ◌∙◌}
 use Rattle.kern_model.specs.declared.limits.TheConstants.{MAX_DESCRIPTIONS, MAX_DESCRIPTORS}
-use Rattle.kern_model.specs.Descriptors.{opened}
+use Rattle.kern_model.specs.Descriptors.{open_description}
 use Rattle.kern_model.specs.FileRows.{has_descriptions, has_free_descriptors}
-use Rattle.kern_model.specs.State.{State, Process, Description, drawn}
+use Rattle.kern_model.specs.State.{State, Process, Description, last_drawn}
 use Rattle.fd_table.specs.Files.{open_refusal, opened_at}
 use Rattle.fd_table.specs.Fds.{fd_count, fds_of}
 use Rattle.fd_table.specs.declared.table.FdError.{FdError}
@@ -28,13 +28,13 @@ module _ (h : Inside) (k : CallerView) (is : state_of h ≡ k.state) (living : I
       ap (λ (p : Process). p.fds) q.same
 
   -- so a descriptor refers to what it refers to in the table
-  pub opened_is : (fd : ℕ) → opened_at h.fds k.who fd ≡ opened k.state k.process fd
-  unfolding opened
+  pub opened_is : (fd : ℕ) → opened_at h.fds k.who fd ≡ open_description k.state k.process fd
+  unfolding open_description
   opened_is fd = λ i. option_and_then (λ did. option_map (λ (d : Description). record { did = did; description = d }) (map.get (is i).descriptions did)) (map.get (fds_are i) fd)
 
   -- and descriptions are opened where the table lets them be opened
   pub refusal_is : (n : ℕ) → open_refusal h.fds k.who k.process.label n ≡ refusal (has_free_descriptors k.process n) (has_descriptions k.state k.process n)
-  refusal_is n = λ i. refusal (nat_le (fd_count (fds_are i) + n) MAX_DESCRIPTORS) (nat_le (drawn (is i).description_numbers k.process.label + n) MAX_DESCRIPTIONS)
+  refusal_is n = λ i. refusal (nat_le (fd_count (fds_are i) + n) MAX_DESCRIPTORS) (nat_le (last_drawn (is i).description_numbers k.process.label + n) MAX_DESCRIPTIONS)
 
 -- a descriptor is free, and a number is left
 pub record HasBoth (free left : Bool) : Type 0 where

@@ -1,4 +1,3 @@
-pub mod CallRows
 pub mod Callers
 pub mod Calling
 pub mod Directories

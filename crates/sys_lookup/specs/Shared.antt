@@ -17,12 +17,12 @@ use Rattle.sys_lookup.specs.declared.shared.Shared.TheInside.{Inside}
 use Rattle.sys_lookup.specs.declared.shared.Metadata.{Metadata}
 
 -- a process with its descriptors
-abbrev pub holding : AllFds → Pid → Process → Process
-holding rows who p = record p { fds = fds_of rows who }
+abbrev pub process_with_fds : AllFds → Pid → Process → Process
+process_with_fds rows who p = record p { fds = fds_of rows who }
 
 -- the processes, each with its descriptors
 unfoldable pub with_fds : FinMap pid_cmp Process → AllFds → FinMap pid_cmp Process
-with_fds procs rows = select (λ who p. Some (holding rows who p)) procs
+with_fds procs rows = select (λ who p. Some (process_with_fds rows who p)) procs
 
 -- the state that is held
 abbrev pub state_of : Inside → State

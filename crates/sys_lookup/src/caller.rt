@@ -2,19 +2,17 @@
 ghost use Rattle.std.specs.Prelude.{◌≡◌, IsSome, MatchOption, None, false, true};
 ghost use Rattle.std.specs.FinMap as map;
 ghost use Rattle.kern_model.specs.declared.numbers.Oid.{Oid};
-ghost use Rattle.kern_model.specs.Row.{Need, Soft};
+ghost use Rattle.kern_model.specs.Row.{need_if, Need, Soft};
 ghost use Rattle.kern_model.specs.Rules.{created_order, dac_read, dac_search, dac_write, fsetid, held_order, link_dir, mac_read, mac_write, mode_allows as mode_lets, unlink_dir};
-ghost use Rattle.kern_model.specs.declared.checks.CheckName.TheVariants as check;
-ghost use Rattle.lab_lattice.specs.Label.{dominates};
 ghost use Rattle.chk_rules.specs.RowSteps.{GoesOn};
 ghost use Rattle.sys_lookup.specs.Callers.{IsLiving, caller_in};
-ghost use Rattle.sys_lookup.specs.StepOn.{IsCheckOn, StepOn};
+ghost use Rattle.sys_lookup.specs.StepOn.{StepOn};
 ghost use Rattle.sys_lookup.specs.Shared.{check_on};
 
 use crate::shared::{Metadata, Shared};
 use chk_rules::{Checks, Stop, Want, mac_read_ok, mac_write_ok, mode_allows, must, prefer};
 use kern_model::{Check, CheckName, Oid, Pid, Place, Thing};
-use lab_lattice::{Label, Lattice};
+use lab_lattice::Lattice;
 use proc_table::Proc;
 use std::marker::Model;
 
@@ -68,52 +66,47 @@ impl<'a> Caller<'a> {
 }
 
 impl Caller<'_> {
-    /// The check that the caller's label dominates that of an object, which is what labels ask of a read.
+    /// Checks, where it is asked for, that the caller's label dominates that of an object, which is what labels ask of a read.
     #[inline(always)]
-    pub fn mac_read_check(&self, object: &Metadata, place: Place) -> Check
-        ensures { IsCheckOn object.now (λ s id. mac_read s self.now.process id place) result }
+    pub fn mac_read_if(
+        &self,
+        asked: bool,
+        checks: &mut Checks,
+        object: &Metadata,
+        place: Place,
+    ) -> Result<(), Stop>
+        ensures { StepOn checks.old object.now (λ s id rest. need_if asked (mac_read s self.now.process id place) (rest tt)) result checks.new }
     {
         let holds = mac_read_ok(&self.label(), &object.label);
-        check_of(CheckName::MacRead, holds, object, place)
+        must_hold_if(asked, checks, CheckName::MacRead, holds, object, place)
     }
 
-    /// The check that the labels of the caller and of an object are equal, which is what labels ask of a write.
-    #[inline(always)]
-    pub fn mac_write_check(&self, object: &Metadata, place: Place) -> Check
-        ensures { IsCheckOn object.now (λ s id. mac_write s self.now.process id place) result }
-    {
-        let holds = mac_write_ok(&self.label(), &object.label);
-        check_of(CheckName::MacWrite, holds, object, place)
-    }
-
-    /// The check that the mode of an object lets the caller read it.
-    #[inline(always)]
-    pub fn dac_read_check(&self, object: &Metadata, place: Place) -> Check
-        ensures { IsCheckOn object.now (λ s id. dac_read s self.now.process id place) result }
-    {
-        let holds = self.mode_lets(object, Want::Read);
-        check_of(CheckName::DacRead, holds, object, place)
-    }
-
-    /// The check that the mode of an object lets the caller write it.
-    #[inline(always)]
-    pub fn dac_write_check(&self, object: &Metadata, place: Place) -> Check
-        ensures { IsCheckOn object.now (λ s id. dac_write s self.now.process id place) result }
-    {
-        let holds = self.mode_lets(object, Want::Write);
-        check_of(CheckName::DacWrite, holds, object, place)
-    }
-
-    /// Makes the check of [`mac_read_check`](Caller::mac_read_check).
+    /// Checks that the caller's label dominates that of an object, which is what labels ask of a read.
+    #[tactic(auto, unfolding(kern_model::specs::Row::need_if))]
     #[inline(always)]
     pub fn mac_read(&self, checks: &mut Checks, object: &Metadata, place: Place) -> Result<(), Stop>
         ensures { StepOn checks.old object.now (λ s id rest. Need (mac_read s self.now.process id place) (rest tt)) result checks.new }
     {
-        let holds = mac_read_ok(&self.label(), &object.label);
-        must_hold(checks, CheckName::MacRead, holds, object, place)
+        self.mac_read_if(true, checks, object, place)
     }
 
-    /// Makes the check of [`mac_write_check`](Caller::mac_write_check).
+    /// Checks, where it is asked for, that the labels of the caller and of an object are equal, which is what labels ask of a write.
+    #[inline(always)]
+    pub fn mac_write_if(
+        &self,
+        asked: bool,
+        checks: &mut Checks,
+        object: &Metadata,
+        place: Place,
+    ) -> Result<(), Stop>
+        ensures { StepOn checks.old object.now (λ s id rest. need_if asked (mac_write s self.now.process id place) (rest tt)) result checks.new }
+    {
+        let holds = mac_write_ok(&self.label(), &object.label);
+        must_hold_if(asked, checks, CheckName::MacWrite, holds, object, place)
+    }
+
+    /// Checks that the labels of the caller and of an object are equal, which is what labels ask of a write.
+    #[tactic(auto, unfolding(kern_model::specs::Row::need_if))]
     #[inline(always)]
     pub fn mac_write(
         &self,
@@ -123,20 +116,50 @@ impl Caller<'_> {
     ) -> Result<(), Stop>
         ensures { StepOn checks.old object.now (λ s id rest. Need (mac_write s self.now.process id place) (rest tt)) result checks.new }
     {
-        let holds = mac_write_ok(&self.label(), &object.label);
-        must_hold(checks, CheckName::MacWrite, holds, object, place)
+        self.mac_write_if(true, checks, object, place)
     }
 
-    /// Makes the check of [`dac_read_check`](Caller::dac_read_check).
+    /// Checks, where it is asked for, that the mode of an object lets the caller read it.
+    #[inline(always)]
+    pub fn dac_read_if(
+        &self,
+        asked: bool,
+        checks: &mut Checks,
+        object: &Metadata,
+        place: Place,
+    ) -> Result<(), Stop>
+        ensures { StepOn checks.old object.now (λ s id rest. need_if asked (dac_read s self.now.process id place) (rest tt)) result checks.new }
+    {
+        let holds = self.mode_lets(object, Want::Read);
+        must_hold_if(asked, checks, CheckName::DacRead, holds, object, place)
+    }
+
+    /// Checks that the mode of an object lets the caller read it.
+    #[tactic(auto, unfolding(kern_model::specs::Row::need_if))]
     #[inline(always)]
     pub fn dac_read(&self, checks: &mut Checks, object: &Metadata, place: Place) -> Result<(), Stop>
         ensures { StepOn checks.old object.now (λ s id rest. Need (dac_read s self.now.process id place) (rest tt)) result checks.new }
     {
-        let holds = self.mode_lets(object, Want::Read);
-        must_hold(checks, CheckName::DacRead, holds, object, place)
+        self.dac_read_if(true, checks, object, place)
     }
 
-    /// Makes the check of [`dac_write_check`](Caller::dac_write_check).
+    /// Checks, where it is asked for, that the mode of an object lets the caller write it.
+    #[inline(always)]
+    pub fn dac_write_if(
+        &self,
+        asked: bool,
+        checks: &mut Checks,
+        object: &Metadata,
+        place: Place,
+    ) -> Result<(), Stop>
+        ensures { StepOn checks.old object.now (λ s id rest. need_if asked (dac_write s self.now.process id place) (rest tt)) result checks.new }
+    {
+        let holds = self.mode_lets(object, Want::Write);
+        must_hold_if(asked, checks, CheckName::DacWrite, holds, object, place)
+    }
+
+    /// Checks that the mode of an object lets the caller write it.
+    #[tactic(auto, unfolding(kern_model::specs::Row::need_if))]
     #[inline(always)]
     pub fn dac_write(
         &self,
@@ -146,8 +169,7 @@ impl Caller<'_> {
     ) -> Result<(), Stop>
         ensures { StepOn checks.old object.now (λ s id rest. Need (dac_write s self.now.process id place) (rest tt)) result checks.new }
     {
-        let holds = self.mode_lets(object, Want::Write);
-        must_hold(checks, CheckName::DacWrite, holds, object, place)
+        self.dac_write_if(true, checks, object, place)
     }
 
     /// Checks that the caller may search a directory.
@@ -211,7 +233,9 @@ impl Caller<'_> {
         ensures { result ≡ held_order self.now.state id.now dir.now place }
     {
         let object = self.metadata(id);
-        label_order(&object.label, &self.metadata(dir), place)
+        let dir = self.metadata(dir);
+        let holds = object.label.dominates(&dir.label);
+        check_of(CheckName::LabelOrder, holds, &dir, place)
     }
 
     /// Whether the mode of an object lets the caller do what is wanted.
@@ -224,16 +248,23 @@ impl Caller<'_> {
     }
 }
 
-// The check that a label dominates that of a directory.
-fn label_order(label: &Label, dir: &Metadata, place: Place) -> Check
-    ensures { result ≡ check_on check.LabelOrder (dominates label.now dir.now.label) None dir.now place }
+// Makes a check of an object where it is asked for.
+#[inline(always)]
+fn must_hold_if(
+    asked: bool,
+    checks: &mut Checks,
+    name: CheckName,
+    holds: bool,
+    object: &Metadata,
+    place: Place,
+) -> Result<(), Stop>
+    ensures { GoesOn checks.old (λ rest. need_if asked (check_on name holds None object.now place) (rest tt)) result checks.new }
 {
-    check_of(
-        CheckName::LabelOrder,
-        label.dominates(&dir.label),
-        dir,
-        place,
-    )
+    if asked {
+        must_hold(checks, name, holds, object, place)
+    } else {
+        Ok(())
+    }
 }
 
 /// Makes a check of an object that has to let the call go on. Only where its rule does not hold is the check built.

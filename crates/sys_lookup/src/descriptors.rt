@@ -1,6 +1,6 @@
 // What the descriptors of the caller refer to, and whether it may open more.
 ghost use Rattle.std.specs.Prelude.{◌≡◌, Some, IfErr, IfOk, OnOk, true};
-ghost use Rattle.kern_model.specs.Descriptors.{opened};
+ghost use Rattle.kern_model.specs.Descriptors.{open_description};
 ghost use Rattle.kern_model.specs.FileRows.{has_descriptions, has_free_descriptors, may_describe, on_descriptor};
 ghost use Rattle.kern_model.specs.declared.calls.Errno.TheVariants as errno;
 ghost use Rattle.chk_rules.specs.CheckLog.{CheckLog};
@@ -14,10 +14,10 @@ use kern_model::{Errno, Fd};
 
 impl Caller<'_> {
     /// What a descriptor of the caller refers to, or a refusal where it is not open.
-    #[tactic(auto, unfolding(kern_model::specs::Row::judge, chk_rules::specs::RowSteps::EndsBy, kern_model::specs::Descriptors::opened))]
+    #[tactic(auto, unfolding(kern_model::specs::Row::judge, chk_rules::specs::RowSteps::EndsBy, kern_model::specs::Descriptors::open_description))]
     pub fn opened(&self, fd: Fd) -> Result<Opened, Stop>
         ensures step { (log : CheckLog) → GoesOn log (on_descriptor self.now.state self.now.process fd) result log }
-        ensures found { IfOk result (λ f. opened self.now.state self.now.process fd ≡ Some f) }
+        ensures found { IfOk result (λ f. open_description self.now.state self.now.process fd ≡ Some f) }
         ensures refused { IfErr result (λ how. how ≡ stop.Refused errno.EBADF) }
     {
         let shared = self.shared;

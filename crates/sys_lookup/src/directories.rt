@@ -14,6 +14,7 @@ use kern_model::{Check, Errno, Oid, Path, Place};
 
 impl Caller<'_> {
     /// Reads an object, by label, and returns its metadata.
+    #[inline(always)]
     pub fn read_object(&self, checks: &mut Checks, id: &Oid, place: Place) -> Result<Metadata, Stop>
         ensures step { GoesOn checks.old (read_object_with self.now id.now place) result checks.new }
         ensures object { IfOk result (λ object. object ≡ metadata_of self.now.state id.now) }
@@ -24,6 +25,7 @@ impl Caller<'_> {
     }
 
     /// Writes an object, by label, and returns its metadata.
+    #[inline(always)]
     pub fn write_object(
         &self,
         checks: &mut Checks,

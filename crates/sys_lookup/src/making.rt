@@ -4,8 +4,8 @@ ghost use Rattle.std.specs.FinMap as map;
 ghost use Rattle.kern_model.specs.Arguments.{are_names};
 ghost use Rattle.kern_model.specs.Create.{attr_of, creation, to_number};
 ghost use Rattle.kern_model.specs.Entries.{is_removed};
-ghost use Rattle.kern_model.specs.Kinds.{kind_of, masked, object_with};
-ghost use Rattle.kern_model.specs.State.{changed_by, look, process_at};
+ghost use Rattle.kern_model.specs.Kinds.{kind_of, masked_permissions, object_with};
+ghost use Rattle.kern_model.specs.State.{apply_changes, look, process_at};
 ghost use Rattle.kern_model.specs.TreeRows.{make_row, make_spot};
 ghost use Rattle.kern_model.specs.Valid.{IsDir, IsValid};
 ghost use Rattle.kern_model.specs.declared.objects.Kind.TheVariants as kind;
@@ -19,7 +19,7 @@ use crate::caller::Caller;
 use crate::effect::Effect;
 use crate::last_name::LastName;
 use crate::shared::Shared;
-use cap_bits::CapState;
+use cap_bits::FileCaps;
 use chk_rules::{Checks, Stop, refuse_if};
 use kern_model::limits::MAX_PERMISSIONS;
 use kern_model::{Attr, Body, Errno, Mode, Oid, Path, Pid};
@@ -74,7 +74,7 @@ pub fn create(
     requires absent { look shared.old spot.now.0 spot.now.1 ≡ None }
     requires no_pipe { kind_of body ≡ kind.Pipe → ⊥ }
     ensures step { (log : CheckLog) → GoesOn log (to_number shared.old label) result log }
-    ensures made { OnOk result (shared.new ≡ changed_by shared.old (creation shared.old label spot.now.0 spot.now.1 (object_with label attr body))) }
+    ensures made { OnOk result (shared.new ≡ apply_changes shared.old (creation shared.old label spot.now.0 spot.now.1 (object_with label attr body))) }
     ensures kept { IfErr result (λ how. Keeps how shared.old shared.new) }
 {
     refuse_if(!shared.can_create(&label), Errno::ENOSPC)?;
@@ -100,14 +100,14 @@ impl Caller<'_> {
     /// The attributes of what the caller makes with a mode: it is its effective user's and group's, without the bits of its
     /// umask and without capabilities.
     pub fn new_attr(&self, mode: Mode) -> Attr
-        ensures { result ≡ attr_of self.now.process (masked mode self.now.process.umask) }
+        ensures { result ≡ attr_of self.now.process (masked_permissions mode self.now.process.umask) }
     {
         let creds = self.creds();
         Attr {
             owner: creds.ids.euid,
             group: creds.ids.egid,
             mode: mode & MAX_PERMISSIONS & !creds.umask,
-            caps: CapState::none(),
+            caps: FileCaps::none(),
         }
     }
 }

@@ -2,13 +2,13 @@
 ghost use Rattle.std.specs.Prelude.{◌≡◌};
 ghost use Rattle.kern_model.specs.FileRows.{unprivileged};
 ghost use Rattle.kern_model.specs.Kinds.{has_set_id, is_stream};
-ghost use Rattle.kern_model.specs.Rules.{is_plain};
+ghost use Rattle.kern_model.specs.Rules.{has_no_caps, is_plain};
 ghost use Rattle.sys_lookup.specs.Rewriting.{kept_attr};
 ghost use Rattle.sys_lookup.specs.StepOn.{StepOn};
 
 use crate::caller::Caller;
 use crate::shared::Metadata;
-use cap_bits::CapState;
+use cap_bits::{CapSet, FileCaps};
 use chk_rules::{Checks, Stop};
 use kern_model::limits::MAX_PERMISSIONS;
 use kern_model::{Attr, Kind, Mode, Place};
@@ -47,7 +47,14 @@ impl Caller<'_> {
 fn is_plain(attr: &Attr) -> bool
     ensures { result ≡ is_plain attr.now }
 {
-    !has_set_id(attr.mode) && attr.caps == CapState::none()
+    !has_set_id(attr.mode) && has_no_caps(&attr.caps)
+}
+
+// Whether a file with these capabilities has none.
+fn has_no_caps(caps: &FileCaps) -> bool
+    ensures { result ≡ has_no_caps caps.now }
+{
+    caps.p == CapSet::none() && caps.i == CapSet::none()
 }
 
 // Whether a mode has a set-id bit.
@@ -64,7 +71,7 @@ fn plain_attr(attr: &Attr) -> Attr
 {
     Attr {
         mode: attr.mode & MAX_PERMISSIONS,
-        caps: CapState::none(),
+        caps: FileCaps::none(),
         ..*attr
     }
 }

@@ -2,7 +2,7 @@
 ghost use Rattle.std.specs.Prelude.{◌≡◌};
 ghost use Rattle.kern_model.specs.Kinds.{is_dir};
 
-use cap_bits::{CapSet, CapState};
+use cap_bits::{CapSet, FileCaps};
 use fd_table::FdTable;
 use fs_dirs::Tree;
 use kern_model::{Attr, Kind, Object, Oid};
@@ -88,7 +88,7 @@ impl Metadata {
                 owner: 0,
                 group: 0,
                 mode: 0,
-                caps: CapState::none(),
+                caps: FileCaps::none(),
             },
         }
     }

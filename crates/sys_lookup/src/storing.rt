@@ -1,9 +1,9 @@
 // How the objects and entries of the state change.
 ghost use Rattle.std.specs.Prelude.{◌≡◌, None, IfOk, OnOk, true, false};
-ghost use Rattle.kern_model.specs.Create.{drawing, has_object_number};
+ghost use Rattle.kern_model.specs.Create.{object_addition, has_object_number};
 ghost use Rattle.kern_model.specs.Entries.{is_removed};
 ghost use Rattle.kern_model.specs.Kinds.{object_with};
-ghost use Rattle.kern_model.specs.State.{SetEntry, changed, changed_by, look, next_object};
+ghost use Rattle.kern_model.specs.State.{SetEntry, apply_change, apply_changes, look, next_object};
 ghost use Rattle.kern_model.specs.Valid.{IsDir};
 ghost use Rattle.fs_dirs.specs.Tree.{MayBeAdded};
 
@@ -25,7 +25,7 @@ impl Shared {
     pub fn create(&mut self, label: Label, attr: Attr, body: Body) -> Result<Oid, NoMemory>
         requires { has_object_number self.old label ≡ true }
         ensures id { IfOk result (λ id. id ≡ next_object self.old label) }
-        ensures drawn { OnOk result (self.new ≡ changed_by self.old (drawing self.old label (object_with label attr body))) }
+        ensures drawn { OnOk result (self.new ≡ apply_changes self.old (object_addition self.old label (object_with label attr body))) }
     {
         match self.tree.create(label, attr, body) {
             Ok(id) => Ok(id),
@@ -40,7 +40,7 @@ impl Shared {
         requires stands { is_removed self.old dir.now ≡ false }
         requires absent { look self.old dir.now name.now ≡ None }
         requires may { MayBeAdded self.old id.now }
-        ensures { OnOk result (self.new ≡ changed self.old (SetEntry (dir.now, name.now) id.now)) }
+        ensures { OnOk result (self.new ≡ apply_change self.old (SetEntry (dir.now, name.now) id.now)) }
     {
         self.tree.add_absent(dir, name.name(), id)
     }

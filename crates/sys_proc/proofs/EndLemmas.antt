@@ -19,23 +19,24 @@ use Rattle.kern_model.specs.declared.records.Rec.TheVariants.{Exit}
 use Rattle.kern_model.specs.Keys.{is_pid, oid_cmp, pid_cmp, same_pid, spot_cmp}
 use Rattle.kern_model.specs.Maps.{any_entry}
 use Rattle.kern_model.specs.ProcessRows.{ending_of, kill_with, process_after_end, changes_after_end}
-use Rattle.kern_model.specs.State.{State, Process, SetProcess, changed_by}
+use Rattle.kern_model.specs.State.{State, Process, SetProcess, apply_changes}
 use Rattle.kern_model.specs.Valid.{IsThere, IsValid}
 use Rattle.kern_model.proofs.KeyLaws.{pid_cmp_total, pid_cmp_exact}
 use Rattle.kern_model.proofs.MapLemmas.{each-entries, get_or-same, never_some, same_key, some_same}
 use Rattle.kern_model.proofs.Selections.{get-remove_none, get-remove_other, get-select_each, none_pass, none_passes}
-use Rattle.fd_table.specs.Files.{OpenFiles, drained, left_with}
+use Rattle.fd_table.specs.Files.{OpenFiles, objects_after_close, left_with}
 use Rattle.fd_table.specs.Fds.{AllFds, fds_of}
-use Rattle.fd_table.proofs.Closing.{changed_by-append, ending_changes, same_tests}
+use Rattle.fd_table.proofs.Closing.{ending_changes, same_tests}
 use Rattle.proc_table.specs.Procs.{ProcTable, ended_by}
 use Rattle.chk_rules.specs.CheckLog.{CheckLog}
 use Rattle.sys_lookup.specs.declared.shared.Shared.TheInside.{Inside}
 use Rattle.sys_lookup.specs.Owners.{HasOwners}
 use Rattle.sys_lookup.specs.PlaysRow.{PlaysRow}
-use Rattle.sys_lookup.specs.Shared.{holding, state_of, with_fds}
+use Rattle.sys_lookup.specs.Shared.{process_with_fds, state_of, with_fds}
 use Rattle.sys_lookup.proofs.ClosingLemmas.{table_shows}
 use Rattle.sys_lookup.proofs.FdLemmas.{get-with_fds}
 use Rattle.sys_lookup.proofs.PlayLemmas.{commits}
+use Rattle.kern_model.proofs.StateLemmas.{apply_changes-append}
 
 -- ---- the processes that change
 
@@ -58,15 +59,15 @@ module _ (procs : FinMap pid_cmp Process) (who : Pid) (p : Process) (how : Endin
   set_by [] m = m
   set_by (e ∷ es) m = set_by es (cond (is_left e.0 e.1) (map.insert m e.0 (process_after_end who p how e.0 e.1)) m)
 
-  one_set : (s : State) (e : Pid × Process) (b : Bool) → changed_by s (cond b (SetProcess e.0 (process_after_end who p how e.0 e.1) ∷ []) []) ≡ record s { procs = cond b (map.insert s.procs e.0 (process_after_end who p how e.0 e.1)) s.procs }
+  one_set : (s : State) (e : Pid × Process) (b : Bool) → apply_changes s (cond b (SetProcess e.0 (process_after_end who p how e.0 e.1) ∷ []) []) ≡ record s { procs = cond b (map.insert s.procs e.0 (process_after_end who p how e.0 e.1)) s.procs }
   one_set s e true = refl
   one_set s e false = refl
 
-  all_set : (es : List (Pid × Process)) (s : State) → changed_by s (flat_map (changes_after_end who p how) es) ≡ record s { procs = set_by es s.procs }
+  all_set : (es : List (Pid × Process)) (s : State) → apply_changes s (flat_map (changes_after_end who p how) es) ≡ record s { procs = set_by es s.procs }
   all_set [] s = refl
   all_set (e ∷ es) s =
-      changed_by-append s (changes_after_end who p how e) (flat_map (changes_after_end who p how) es)
-      ∙ ap (λ (x : State). changed_by x (flat_map (changes_after_end who p how) es)) (one_set s e (is_left e.0 e.1))
+      apply_changes-append s (changes_after_end who p how e) (flat_map (changes_after_end who p how) es)
+      ∙ ap (λ (x : State). apply_changes x (flat_map (changes_after_end who p how) es)) (one_set s e (is_left e.0 e.1))
       ∙ all_set es (record s { procs = cond (is_left e.0 e.1) (map.insert s.procs e.0 (process_after_end who p how e.0 e.1)) s.procs })
 
   -- a process that a list of the table's entries sets
@@ -137,7 +138,7 @@ module _ (procs : FinMap pid_cmp Process) (who : Pid) (p : Process) (how : Endin
   ] refl
 
   -- where the process is gone, the changes of the others leave what `ended_by` says
-  survivors : (s : State) → s.procs ≡ map.remove procs who → changed_by s (flat_map (changes_after_end who p how) (map.entries procs)) ≡ record s { procs = ended_by procs who p how }
+  survivors : (s : State) → s.procs ≡ map.remove procs who → apply_changes s (flat_map (changes_after_end who p how) (map.entries procs)) ≡ record s { procs = ended_by procs who p how }
   unfolding any_entry
   survivors s gone =
       let es = map.entries procs in
@@ -154,19 +155,19 @@ module _ (procs : FinMap pid_cmp Process) (rows : AllFds) (who : Pid) (q : Proce
   abbrev without : AllFds
   without = map.remove rows who
 
-  alike : (k : Pid) → fds_of without k ≡ fds_of rows k → (w : Option Process) → option_map (holding without k) (option_map (process_after_end who q how k) w) ≡ option_map (process_after_end who (holding rows who q) how k) (option_map (holding rows k) w)
+  alike : (k : Pid) → fds_of without k ≡ fds_of rows k → (w : Option Process) → option_map (process_with_fds without k) (option_map (process_after_end who q how k) w) ≡ option_map (process_after_end who (process_with_fds rows who q) how k) (option_map (process_with_fds rows k) w)
   alike k same None = refl
   alike k same (Some x) = λ i. Some (record (process_after_end who q how k x) { fds = same i })
 
-  with_fds-ended : with_fds (ended_by procs who q how) without ≡ ended_by (with_fds procs rows) who (holding rows who q) how
+  with_fds-ended : with_fds (ended_by procs who q how) without ≡ ended_by (with_fds procs rows) who (process_with_fds rows who q) how
   with_fds-ended = same_map pid_cmp_total pid_cmp_exact _ _ (λ k.
       get-with_fds (ended_by procs who q how) without k
-      ∙ ap (option_map (holding without k)) (get-select_each pid_cmp_total pid_cmp_exact (process_after_end who q how) (map.remove procs who) k ∙ ap (option_map (process_after_end who q how k)) (get-remove pid_cmp_total procs who k))
-      ∙ elim (same_pid k who) as (λ b. same_pid k who ≡ b → option_map (holding without k) (option_map (process_after_end who q how k) (cond b None (map.get procs k))) ≡ option_map (process_after_end who (holding rows who q) how k) (cond b None (map.get (with_fds procs rows) k))) [
+      ∙ ap (option_map (process_with_fds without k)) (get-select_each pid_cmp_total pid_cmp_exact (process_after_end who q how) (map.remove procs who) k ∙ ap (option_map (process_after_end who q how k)) (get-remove pid_cmp_total procs who k))
+      ∙ elim (same_pid k who) as (λ b. same_pid k who ≡ b → option_map (process_with_fds without k) (option_map (process_after_end who q how k) (cond b None (map.get procs k))) ≡ option_map (process_after_end who (process_with_fds rows who q) how k) (cond b None (map.get (with_fds procs rows) k))) [
         | true ↦ λ _. refl
-        | false ↦ λ t. alike k (get_or-same without rows k map.empty (get-remove_other pid_cmp_total rows who k t)) (map.get procs k) ∙ ap (option_map (process_after_end who (holding rows who q) how k)) (sym (get-with_fds procs rows k))
+        | false ↦ λ t. alike k (get_or-same without rows k map.empty (get-remove_other pid_cmp_total rows who k t)) (map.get procs k) ∙ ap (option_map (process_after_end who (process_with_fds rows who q) how k)) (sym (get-with_fds procs rows k))
       ] refl
-      ∙ sym (get-select_each pid_cmp_total pid_cmp_exact (process_after_end who (holding rows who q) how) (map.remove (with_fds procs rows) who) k ∙ ap (option_map (process_after_end who (holding rows who q) how k)) (get-remove pid_cmp_total (with_fds procs rows) who k)))
+      ∙ sym (get-select_each pid_cmp_total pid_cmp_exact (process_after_end who (process_with_fds rows who q) how) (map.remove (with_fds procs rows) who) k ∙ ap (option_map (process_after_end who (process_with_fds rows who q) how k)) (get-remove pid_cmp_total (with_fds procs rows) who k)))
 
   -- ---- owners
 
@@ -186,26 +187,26 @@ module _ (procs : FinMap pid_cmp Process) (rows : AllFds) (who : Pid) (q : Proce
 -- a process ends, and its descriptors close
 ends_so : (h : Inside) → ∥ HasOwners h.procs.procs h.fds.processes ∥₁ → ∥ IsValid (state_of h) ∥₁ → (who : Pid) (q : Process) (how : Ending) → (
     let left : OpenFiles = left_with h.fds (map.remove h.fds.processes who) in
-    record (state_of h) { procs = with_fds (ended_by h.procs.procs who q how) (map.remove h.fds.processes who); descriptions = left.descriptions; objects = drained h.fds.descriptions left.descriptions (state_of h).objects }
-    ≡ changed_by (state_of h) (ending_of (state_of h) who (holding h.fds.processes who q) how))
+    record (state_of h) { procs = with_fds (ended_by h.procs.procs who q how) (map.remove h.fds.processes who); descriptions = left.descriptions; objects = objects_after_close h.fds.descriptions left.descriptions (state_of h).objects }
+    ≡ apply_changes (state_of h) (ending_of (state_of h) who (process_with_fds h.fds.processes who q) how))
 ends_so h owners valid who q how =
     let s = state_of h in
     let left : OpenFiles = left_with h.fds (map.remove h.fds.processes who) in
-    let closed : State = record s { procs = map.remove s.procs who; descriptions = left.descriptions; objects = drained h.fds.descriptions left.descriptions s.objects } in
+    let closed : State = record s { procs = map.remove s.procs who; descriptions = left.descriptions; objects = objects_after_close h.fds.descriptions left.descriptions s.objects } in
     (λ i. record closed { procs = with_fds-ended h.procs.procs h.fds.processes who q how i })
-    ∙ sym (survivors s.procs who (holding h.fds.processes who q) how closed refl)
-    ∙ sym (ending_changes s h.fds (table_shows h owners valid) who (holding h.fds.processes who q) how)
+    ∙ sym (survivors s.procs who (process_with_fds h.fds.processes who q) how closed refl)
+    ∙ sym (ending_changes s h.fds (table_shows h owners valid) who (process_with_fds h.fds.processes who q) how)
 
 -- so the row is played by which it ends
 pub plays_end : (h : Inside) → ∥ HasOwners h.procs.procs h.fds.processes ∥₁ → ∥ IsValid (state_of h) ∥₁ → (log : CheckLog) (who : Pid) (q : Process) (how : Ending) (procs : ProcTable) (fds : OpenFiles)
     {objects : FinMap oid_cmp Object} {entries : FinMap spot_cmp Oid} {numbers : FinMap label_cmp ℕ}
     → procs ≡ record h.procs { procs = ended_by h.procs.procs who q how } → fds ≡ left_with h.fds (map.remove h.fds.processes who)
-    → objects ≡ drained h.fds.descriptions fds.descriptions (state_of h).objects → entries ≡ (state_of h).entries → numbers ≡ (state_of h).object_numbers
-    → PlaysRow (state_of h) log (kill_with (state_of h) who (holding h.fds.processes who q) how) (Ok (record { answer = Nothing; own = Some (Exit who how) }))
+    → objects ≡ objects_after_close h.fds.descriptions fds.descriptions (state_of h).objects → entries ≡ (state_of h).entries → numbers ≡ (state_of h).object_numbers
+    → PlaysRow (state_of h) log (kill_with (state_of h) who (process_with_fds h.fds.processes who q) how) (Ok (record { answer = Nothing; own = Some (Exit who how) }))
     (record (state_of h) { procs = with_fds procs.procs fds.processes; process_numbers = procs.numbers; descriptions = fds.descriptions; description_numbers = fds.numbers; objects = objects; entries = entries; object_numbers = numbers }) log
 plays_end h owners valid log who q how procs fds ended left emptied same_entries same_numbers =
     let s = state_of h in
-    commits s _ log (ending_of s who (holding h.fds.processes who q) how) Nothing (Some (Exit who how))
+    commits s _ log (ending_of s who (process_with_fds h.fds.processes who q) how) Nothing (Some (Exit who how))
     ((λ i. record s {
       procs = with_fds (ended i).procs (left i).processes;
       process_numbers = (ended i).numbers;
@@ -215,5 +216,5 @@ plays_end h owners valid log who q how procs fds ended left emptied same_entries
       entries = same_entries i;
       object_numbers = same_numbers i;
     })
-    ∙ (λ i. record s { procs = with_fds (ended_by h.procs.procs who q how) (map.remove h.fds.processes who); descriptions = (left_with h.fds (map.remove h.fds.processes who)).descriptions; objects = drained h.fds.descriptions (left i).descriptions s.objects })
+    ∙ (λ i. record s { procs = with_fds (ended_by h.procs.procs who q how) (map.remove h.fds.processes who); descriptions = (left_with h.fds (map.remove h.fds.processes who)).descriptions; objects = objects_after_close h.fds.descriptions (left i).descriptions s.objects })
     ∙ ends_so h owners valid who q how)

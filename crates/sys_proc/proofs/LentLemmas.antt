@@ -10,7 +10,7 @@ use Rattle.proc_table.specs.Procs.{creds_of, under_creds, with_creds}
 use Rattle.sys_lookup.specs.Shared.{state_of, with_fds}
 use Rattle.sys_lookup.specs.declared.shared.Shared.TheInside.{Inside}
 use Rattle.sys_lookup.proofs.LendLemmas.{creds_left, creds_lent, creds_there}
-use Rattle.sys_proc.specs.Changing.{becoming}
+use Rattle.sys_proc.specs.Changing.{state_with_process}
 
 -- the state where a process was left with other credentials
 abbrev pub under : Inside → Pid → Credentials → State
@@ -30,7 +30,7 @@ module _ (h : Inside) (s : State) (is : state_of h ≡ s) (who : Pid) (living : 
     lent_is = creds_lent h.procs.procs h.fds.processes who (process_at s who) there lent value
 
     -- where they are changed, the process is
-    pub left_changed : (change : Credentials → Credentials) (new : Credentials) → new ≡ change lent → under h who new ≡ becoming s who (λ p. with_creds p (change (creds_of p)))
+    pub left_changed : (change : Credentials → Credentials) (new : Credentials) → new ≡ change lent → under h who new ≡ state_with_process s who (λ p. with_creds p (change (creds_of p)))
     left_changed change new made =
         let left : with_fds (under_creds h.procs.procs who new) h.fds.processes ≡ map.insert (state_of h).procs who (with_creds (process_at s who) new) =
         creds_left h.procs.procs h.fds.processes who (process_at s who) there new in

@@ -12,7 +12,7 @@ use Rattle.chk_rules.specs.CheckLog.{CheckLog}
 use Rattle.chk_rules.specs.RowSteps.{GoesOn}
 use Rattle.chk_rules.specs.declared.stop.Stop.{Stop}
 use Rattle.proc_creds.specs.Credentials.{Credentials}
-use Rattle.proc_table.specs.Procs.{creds_of, starting}
+use Rattle.proc_table.specs.Procs.{creds_of, new_process}
 use Rattle.sys_lookup.specs.declared.effect.Effect.{Effect}
 use Rattle.sys_lookup.specs.PlaysRow.{PlaysRow}
 
@@ -36,7 +36,7 @@ module _ (s : State) (target : Pid) (receiver : Process) (is : Some (creds_of re
   -- what is asked of its credentials is asked of the receiver
   pub asks_receiver : (p : Process) {a b : CheckLog} {r : Result ⊤ Stop} → GoesOn a (λ rest. asks_signal p target receiver (rest tt)) r b → GoesOn a (λ rest. asks_signal p target (process_at s target) (rest tt)) r b
   asks_receiver p {a} {b} {r} step =
-      subst (λ (c : Credentials). GoesOn a (λ rest. asks_signal p target (starting c root) (rest tt)) r b) (some_same _ _ (is ∙ ap (option_map creds_of) there)) step
+      subst (λ (c : Credentials). GoesOn a (λ rest. asks_signal p target (new_process c root) (rest tt)) r b) (some_same _ _ (is ∙ ap (option_map creds_of) there)) step
 
   -- the signal is sent to it
   pub sends : (p : Process) (sig : Signal) {a b : CheckLog} {r : Result Effect Stop} {t : State} → PlaysRow s a (send s p target sig (Some (process_at s target))) r t b → PlaysRow s a (send s p target sig (map.get s.procs target)) r t b

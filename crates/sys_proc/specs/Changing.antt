@@ -2,15 +2,15 @@
 use Rattle.std.specs.Prelude.{Bool, true}
 use Rattle.kern_model.specs.declared.numbers.Pid.{Pid}
 use Rattle.kern_model.specs.Rules.{may_become}
-use Rattle.kern_model.specs.State.{State, Process, SetProcess, changed, process_at}
+use Rattle.kern_model.specs.State.{State, Process, SetProcess, apply_change, process_at}
 use Rattle.proc_creds.specs.Credentials.{Credentials}
 use Rattle.sys_proc.specs.declared.changing.CredsChange.{CredsChange}
 use Rattle.sys_proc.specs.declared.changing.CredsChange.TheVariants as change
 use Rattle.sys_proc.specs.IdKind.{may_set, with_id}
 
 -- the process with a number becomes another one
-abbrev pub becoming : State → Pid → (Process → Process) → State
-becoming s who change = changed s (SetProcess who (change (process_at s who)))
+abbrev pub state_with_process : State → Pid → (Process → Process) → State
+state_with_process s who change = apply_change s (SetProcess who (change (process_at s who)))
 
 -- whether the rule of a change allows it
 abbrev pub is_allowed : CredsChange → Credentials → Bool

@@ -3,7 +3,7 @@ ghost use Rattle.std.specs.Prelude.{◌≡◌, IsSome, OnErr, OnOk, false, true}
 ghost use Rattle.std.specs.FinMap as map;
 ghost use Rattle.kern_model.specs.State.{process_at};
 ghost use Rattle.proc_table.specs.Procs.{creds_of, with_creds};
-ghost use Rattle.sys_proc.specs.Changing.{becoming, creds_after, is_allowed};
+ghost use Rattle.sys_proc.specs.Changing.{state_with_process, creds_after, is_allowed};
 
 use crate::id_kind::IdKind;
 use cap_bits::CapState;
@@ -44,7 +44,7 @@ impl CredsChange {
 pub fn change_creds(shared: &mut Shared, who: &Pid, change: CredsChange)
     requires living { IsSome (map.get shared.old.procs who.now) }
     requires allowed { is_allowed change (creds_of (process_at shared.old who.now)) ≡ true }
-    ensures { shared.new ≡ becoming shared.old who.now (λ p. with_creds p (creds_after change (creds_of p))) }
+    ensures { shared.new ≡ state_with_process shared.old who.now (λ p. with_creds p (creds_after change (creds_of p))) }
 {
     let Some(creds) = shared.procs.creds_mut(who) else {
         unreachable!();

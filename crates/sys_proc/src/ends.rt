@@ -1,7 +1,7 @@
 // The calls `exit` and `kill`.
 ghost use Rattle.std.specs.Prelude.{◌≡◌, IsSome, Ok, option_copied, option_map};
 ghost use Rattle.std.specs.FinMap as map;
-ghost use Rattle.kern_model.specs.ProcessRows.{asks_signal, exit_row, kill_row, kill_with, signalled as signalled_row};
+ghost use Rattle.kern_model.specs.ProcessRows.{asks_signal, exit_row, kill_row, kill_with, signal_row as signalled_row};
 ghost use Rattle.kern_model.specs.Rules.{kill_rule as kill_check, mac_write_process};
 ghost use Rattle.kern_model.specs.State.{process_at};
 ghost use Rattle.kern_model.specs.Valid.{IsValid};
@@ -43,7 +43,7 @@ pub fn kill(
         return Err(Stop::Refused(Errno::ESRCH));
     };
     may_signal(&sender, checks, target, receiver)?;
-    Ok(signalled(shared, target, signal))
+    Ok(send_signal(shared, target, signal))
 }
 
 // The living process with the number of a signal's receiver, if there is one.
@@ -104,7 +104,7 @@ fn kill_rule(sender: &Caller<'_>, target: &Pid, receiver: &Proc) -> Check
 }
 
 // A signal reaches a living process. It takes no memory.
-fn signalled(shared: &mut Shared, target: &Pid, signal: Signal) -> Effect
+fn send_signal(shared: &mut Shared, target: &Pid, signal: Signal) -> Effect
     requires valid { ∥ IsValid shared.old ∥₁ }
     requires living { IsSome (map.get shared.old.procs target.now) }
     ensures { PlaysUnchecked shared.old (signalled_row shared.old target.now (process_at shared.old target.now) signal) (Ok result) shared.new }

@@ -55,7 +55,7 @@ fn run(shared: &mut Shared, who: &Pid, program: &Metadata) -> Effect
         own: Some(Rec::Exec {
             who: *who,
             file: program.id,
-            file_caps: attr.caps,
+            file_caps: attr.caps.shown(),
             caps: creds.caps,
         }),
     }

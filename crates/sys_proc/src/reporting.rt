@@ -5,7 +5,7 @@ ghost use Rattle.kern_model.specs.ProcessRows.{reports};
 ghost use Rattle.kern_model.specs.State.{State};
 ghost use Rattle.kern_model.specs.Table.{row};
 ghost use Rattle.chk_rules.specs.CheckLog.{CheckLog};
-ghost use Rattle.sys_lookup.specs.CallRows.{LeavesNothingOf};
+ghost use Rattle.sys_lookup.specs.PlaysRow.{LeavesNothingOf};
 ghost use Rattle.sys_lookup.specs.Memory.{takes_no_memory};
 ghost use Rattle.sys_lookup.specs.PlaysRow.{PlaysRow};
 ghost use Rattle.sys_proc.specs.Playing.{is_own_call};

@@ -3,7 +3,8 @@ ghost use Rattle.std.specs.Prelude.{◌≡◌, IsSome, true};
 ghost use Rattle.std.specs.FinMap as map;
 ghost use Rattle.kern_model.specs.Arguments.{has_names};
 ghost use Rattle.kern_model.specs.Valid.{IsValid};
-ghost use Rattle.sys_lookup.specs.CallRows.{PlaysRowOf};
+ghost use Rattle.kern_model.specs.Table.{row};
+ghost use Rattle.sys_lookup.specs.PlaysRow.{PlaysCall};
 ghost use Rattle.sys_tree.specs.Playing.{is_tree_call};
 
 use crate::linking::link;
@@ -23,7 +24,7 @@ pub fn play(shared: &mut Shared, checks: &mut Checks, who: &Pid, call: &Call) ->
     requires call { is_tree_call call.now ≡ true }
     requires valid { ∥ IsValid shared.old ∥₁ }
     requires living { IsSome (map.get shared.old.procs who.now) }
-    ensures played { PlaysRowOf shared.old who.now call.now checks.old result shared.new checks.new }
+    ensures played { PlaysCall shared.old who.now checks.old (λ s who p. row s who p call.now) result shared.new checks.new }
     ensures names { has_names call.now ≡ true }
 {
     match call {

@@ -1,7 +1,7 @@
 // The calls `rmdir` and `unlink`.
 ghost use Rattle.std.specs.Prelude.{◌≡◌, Some, IfOk, IsSome};
 ghost use Rattle.std.specs.FinMap as map;
-ghost use Rattle.kern_model.specs.State.{DropEntry, changed, look};
+ghost use Rattle.kern_model.specs.State.{DropEntry, apply_change, look};
 ghost use Rattle.kern_model.specs.TreeRows.{must_be_empty, rmdir_row, unlink_row};
 ghost use Rattle.chk_rules.specs.CheckLog.{CheckLog};
 ghost use Rattle.chk_rules.specs.RowSteps.{GoesOn};
@@ -66,7 +66,7 @@ fn must_be_empty(caller: &Caller<'_>, object: &Metadata) -> Result<(), Stop>
 // Takes away an entry that is there.
 fn drop_entry(shared: &mut Shared, dir: &Oid, name: &LastName<'_>)
     requires { IsSome (look shared.old dir.now name.now) }
-    ensures { shared.new ≡ changed shared.old (DropEntry (dir.now, name.now)) }
+    ensures { shared.new ≡ apply_change shared.old (DropEntry (dir.now, name.now)) }
 {
     match shared.tree.remove(dir, name.name()) {
         Ok(()) => {}

@@ -1,7 +1,7 @@
 // The call `chdir`.
 ghost use Rattle.std.specs.Prelude.{◌≡◌, IsSome};
 ghost use Rattle.std.specs.FinMap as map;
-ghost use Rattle.kern_model.specs.State.{SetProcess, changed, process_at};
+ghost use Rattle.kern_model.specs.State.{SetProcess, apply_change, process_at};
 ghost use Rattle.kern_model.specs.TreeRows.{chdir_row};
 ghost use Rattle.sys_lookup.specs.PlaysRow.{PlaysCall};
 
@@ -24,7 +24,7 @@ pub fn chdir(shared: &mut Shared, checks: &mut Checks, who: &Pid, path: &Path) -
 // Has a directory be the current one of a living process.
 fn change_directory(shared: &mut Shared, who: &Pid, dir: Oid)
     requires { IsSome (map.get shared.old.procs who.now) }
-    ensures { shared.new ≡ changed shared.old (SetProcess who.now (record (process_at shared.old who.now) { cwd = dir })) }
+    ensures { shared.new ≡ apply_change shared.old (SetProcess who.now (record (process_at shared.old who.now) { cwd = dir })) }
 {
     shared.procs.set_cwd(who, dir);
 }

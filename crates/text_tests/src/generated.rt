@@ -2,7 +2,7 @@
 use gen_world::{Generator, NoMemory, gen_text};
 use std::alloc::Global;
 
-const TEXT_OF_1: &[u8] = b"world 1\n\
+const TEXT_OF_1: &[u8] = b"world 2\n\
     levels l0 l1 l2 l3\n\
     categories c0 c1\n\
     bound all\n\

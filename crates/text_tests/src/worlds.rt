@@ -24,101 +24,128 @@ use Answer::{Ended, Refused, World};
 type Repeated = (&'static [u8], &'static [u8], usize, &'static [u8]);
 
 // Three levels and two categories.
-const HEAD: &[u8] = b"world 1\nlevels unc conf sec\ncategories a b\nbound all\n";
+const HEAD: &[u8] = b"world 2\nlevels unc conf sec\ncategories a b\nbound all\n";
 
 // The head, and the root.
 const HEAD_AND_ROOT: &[u8] =
-    b"world 1\nlevels unc conf sec\ncategories a b\nbound all\ndir / 0777 0 0 unc\n";
+    b"world 2\nlevels unc conf sec\ncategories a b\nbound all\ndir / 0777 0 0 unc\n";
 
 // Whole texts.
 const HEADS: &[(&[u8], Answer)] = &[
     (b"", Ended(1, 0)),
+    (b"world 2", Ended(1, 7)),
+    (b"world 2\n", Ended(2, 0)),
+    (b"\n# first\n world  2 \n", Ended(4, 0)),
+    (b"world \"2\"\n", Ended(2, 0)),
+    (b"\"world\" 2\n", Refused(1, Syntax)),
+    (b"world 1\n", Refused(1, OldFormat)),
+    (b"\n# first\n world  1 \nlevels\n", Refused(3, OldFormat)),
+    (b"world \"\\x31\"\n", Refused(1, OldFormat)),
     (b"world 1", Ended(1, 7)),
-    (b"world 1\n", Ended(2, 0)),
-    (b"\n# first\n world  1 \n", Ended(4, 0)),
-    (b"world 2\n", Refused(1, Syntax)),
-    (b"world \"1\"\n", Ended(2, 0)),
+    (b"world 01\n", Refused(1, Syntax)),
+    (b"world 1 1\n", Refused(1, Syntax)),
     (b"\"world\" 1\n", Refused(1, Syntax)),
+    (b"world 3\n", Refused(1, Syntax)),
     (b"levels unc\n", Refused(1, Syntax)),
-    (b"world 1\nlevels\n", Refused(2, Syntax)),
-    (b"world 1\nlevels a a\n", Refused(2, Repeated)),
-    (b"world 1\nlevels a 9 a\n", Refused(2, Syntax)),
+    (b"world 2\nlevels\n", Refused(2, Syntax)),
+    (b"world 2\nlevels a a\n", Refused(2, Repeated)),
+    (b"world 2\nlevels a 9 a\n", Refused(2, Syntax)),
     (
-        b"world 1\nlevels unc conf sec n4 n5 n6 n7 n8 n9 n10 n11 n12 n13 n14 n15 n16 n17\n",
+        b"world 2\nlevels unc conf sec n4 n5 n6 n7 n8 n9 n10 n11 n12 n13 n14 n15 n16 n17\n",
         Refused(2, TooMany),
     ),
-    (b"world 1\nlevels a\ncategories\nbound none\n", Ended(5, 0)),
-    (b"world 1\nlevels a\ncategories a\n", Ended(4, 0)),
-    (b"world 1\nlevels a\ncategories b b\n", Refused(3, Repeated)),
+    (b"world 2\nlevels a\ncategories\nbound none\n", Ended(5, 0)),
+    (b"world 2\nlevels a\ncategories a\n", Ended(4, 0)),
+    (b"world 2\nlevels a\ncategories b b\n", Refused(3, Repeated)),
     (
-        b"world 1\nlevels a\ncategories\ngrades low\nbound all\n",
+        b"world 2\nlevels a\ncategories\ngrades low\nbound all\n",
         Ended(6, 0),
     ),
     (
-        b"world 1\nlevels a\ncategories\ngrades\n",
+        b"world 2\nlevels a\ncategories\ngrades\n",
         Refused(4, Syntax),
     ),
     (
-        b"world 1\nlevels a\ncategories\ngrades low 9\n",
+        b"world 2\nlevels a\ncategories\ngrades low 9\n",
         Refused(4, Syntax),
     ),
     (
-        b"world 1\nlevels a\ncategories\ngrades low low\n",
+        b"world 2\nlevels a\ncategories\ngrades low low\n",
         Refused(4, Repeated),
     ),
     (
-        b"world 1\nlevels a\ncategories\ngrades low\ngrades high\n",
+        b"world 2\nlevels a\ncategories\ngrades low\ngrades high\n",
         Refused(5, Syntax),
     ),
-    (b"world 1\nlevels a\ngrades low\n", Refused(3, Syntax)),
+    (b"world 2\nlevels a\ngrades low\n", Refused(3, Syntax)),
     (
-        b"world 1\nlevels a\ncategories\nbound\n",
+        b"world 2\nlevels a\ncategories\nbound\n",
         Refused(4, Syntax),
     ),
     (
-        b"world 1\nlevels a\ncategories\nbound cap_kill\n",
+        b"world 2\nlevels a\ncategories\nbound cap_kill\n",
         Ended(5, 0),
     ),
     (
-        b"world 1\nlevels a\ncategories\nbound CAP_SETUID,cap_Kill\n",
+        b"world 2\nlevels a\ncategories\nbound CAP_SETUID,cap_Kill\n",
         Ended(5, 0),
     ),
     (
-        b"world 1\nlevels a\ncategories\nbound \"all\"\n",
+        b"world 2\nlevels a\ncategories\nbound \"all\"\n",
         Ended(5, 0),
     ),
     (
-        b"world 1\nlevels a\ncategories\nbound cap_x\n",
+        b"world 2\nlevels a\ncategories\nbound cap_x\n",
         Refused(4, UnknownName),
     ),
     (
-        b"world 1\nlevels a\ncategories\nbound cap_kill,\n",
+        b"world 2\nlevels a\ncategories\nbound cap_kill,\n",
         Refused(4, UnknownName),
     ),
     (
-        b"world 1\nlevels a\ncategories\nbound \"\"\n",
+        b"world 2\nlevels a\ncategories\nbound \"\"\n",
         Refused(4, Syntax),
     ),
     (
-        b"world 1\nlevels a\ncategories\nbound cap_kill cap_setuid\n",
+        b"world 2\nlevels a\ncategories\nbound cap_kill cap_setuid\n",
         Refused(4, Syntax),
+    ),
+];
+
+// Texts where the old format is due.
+const OLD_HEADS: &[(&[u8], Answer)] = &[
+    (b"world 1", Ended(1, 7)),
+    (b"world 1\n", Ended(2, 0)),
+    (b"\n world  \"1\"\n", Ended(3, 0)),
+    (b"world 2\n", Refused(1, Syntax)),
+    (b"world 01\n", Refused(1, Syntax)),
+    (
+        b"world 1\nlevels a\ncategories\nbound none\ndir / 0777 0 0 a\nscript\n",
+        World(7),
+    ),
+    (
+        b"world 1\nlevels a\ncategories\nbound none\ndir / 0777 0 0 a\n\
+        file /f 0644 0 0 a \"\" \"cap_kill=ep cap_chown=p\"\n",
+        Refused(6, MixedCaps),
     ),
 ];
 
 // Texts with a part that stands many times.
 const LONG_HEADS: &[(Repeated, Answer)] = &[
-    ((b"world 1\nlevels", b" a", 17, b"\n"), Refused(2, TooMany)),
-    ((b"world 1\nlevels", b" a", 17, b" 9\n"), Refused(2, Syntax)),
+    ((b"world 1", b" ", 2_041, b"\n"), Refused(1, OldFormat)),
+    ((b"world 1", b" ", 2_042, b"\n"), Refused(1, Syntax)),
+    ((b"world 2\nlevels", b" a", 17, b"\n"), Refused(2, TooMany)),
+    ((b"world 2\nlevels", b" a", 17, b" 9\n"), Refused(2, Syntax)),
     (
-        (b"world 1\nlevels a\ncategories", b" b", 65, b"\n"),
+        (b"world 2\nlevels a\ncategories", b" b", 65, b"\n"),
         Refused(3, TooMany),
     ),
     (
-        (b"world 1\nlevels a\ncategories", b" b", 65, b" 9\n"),
+        (b"world 2\nlevels a\ncategories", b" b", 65, b" 9\n"),
         Refused(3, Syntax),
     ),
     (
-        (b"world 1\nlevels a\ncategories\ngrades", b" c", 17, b"\n"),
+        (b"world 2\nlevels a\ncategories\ngrades", b" c", 17, b"\n"),
         Refused(4, TooMany),
     ),
 ];
@@ -131,6 +158,10 @@ const ROOTS: &[(&[u8], Answer)] = &[
     (b"dir /a 0777 0 0 unc\n", Refused(5, NoParent)),
     (b"dir / 0777 0 0 sec\n", Refused(5, RootLabel)),
     (b"fifo / 0777 0 0 unc\n", Refused(5, RootLabel)),
+    (
+        b"file / 0777 0 0 unc \"\" cap_kill=e\n",
+        Refused(5, RootLabel),
+    ),
     (b"dir / 0777 0 0 zzz\n", Refused(5, UnknownName)),
 ];
 
@@ -171,10 +202,46 @@ const TREES: &[(&[u8], Answer)] = &[
     ),
     (b"file /x/y 0644 0 0 zzz \"\"\n", Refused(6, UnknownName)),
     (
-        b"file /a 0644 0 0 unc \"\" \"cap_kill=e cap_chown=i\"\n",
+        b"file /a 0644 0 0 unc \"\" \"cap_kill=ep cap_chown=ei\"\n",
         Ended(7, 0),
     ),
+    (
+        b"file /a 0644 0 0 unc \"\" \"cap_kill=p cap_chown=i\"\n",
+        Ended(7, 0),
+    ),
+    (
+        b"file /a 0644 0 0 unc \"\" \"cap_kill=e cap_chown=i\"\n",
+        Refused(6, MixedCaps),
+    ),
     (b"file /a 0644 0 0 unc \"\" CAP_KILL+ei-e\n", Ended(7, 0)),
+    (
+        b"file /a 0644 0 0 unc \"\" \"cap_kill=ep cap_chown=i\"\n",
+        Refused(6, MixedCaps),
+    ),
+    (
+        b"file /a 0644 0 0 unc \"\" \"cap_kill=ep cap_chown=p\"\n",
+        Refused(6, MixedCaps),
+    ),
+    (
+        b"file /a 0644 0 0 unc \"\" cap_kill=e\n",
+        Refused(6, MixedCaps),
+    ),
+    (
+        b"file /a 0644 0 0 zzz \"\" cap_kill=e\n",
+        Refused(6, UnknownName),
+    ),
+    (
+        b"file / 0644 0 0 unc \"\" cap_kill=e\n",
+        Refused(6, Repeated),
+    ),
+    (
+        b"file /x/y 0644 0 0 unc \"\" cap_kill=e\n",
+        Refused(6, NoParent),
+    ),
+    (
+        b"dir /h 0755 0 0 sec\nfile /h/f 0644 0 0 unc \"\" cap_kill=e\n",
+        Refused(7, LabelOrder),
+    ),
     (
         b"file /a 0644 0 0 zzz \"\" \"cap_kill=ep\"\n",
         Refused(6, UnknownName),
@@ -257,7 +324,7 @@ const LONG_TREES: &[(Repeated, Answer)] = &[
 
 // Each kind of line, with quoted words, comments and blank lines.
 const WHOLE: &[u8] = b"# a world\n\
-    world 1\n\
+    world 2\n\
     levels unc conf sec\n\
     \n\
     categories a b\n\
@@ -288,9 +355,9 @@ fn repeated(alloc: Global, text: Repeated) -> Result<Vec<u8>, NoMemory> {
     Ok(bytes)
 }
 
-// What a text gives that is read one line at a time.
-fn answered(alloc: Global, text: &[u8]) -> Result<Answer, NoMemory> {
-    let mut expecting = Expecting::Format;
+// What a text in this format gives that is read one line at a time.
+fn answered(alloc: Global, due: Format, text: &[u8]) -> Result<Answer, NoMemory> {
+    let mut expecting = Expecting::Format(due);
     let mut rest = text;
     let mut number = 1;
     while let Some((line, after)) = next_line(rest) {
@@ -305,21 +372,36 @@ fn answered(alloc: Global, text: &[u8]) -> Result<Answer, NoMemory> {
     Ok(Ended(number, rest.len()))
 }
 
-// Whether a text comes out so after the lines before it, and is read whole only where it is a world.
-fn comes_out(alloc: Global, before: &[u8], text: &[u8], wanted: Answer) -> Result<bool, NoMemory> {
+// Whether a text in this format is read whole.
+fn is_read(alloc: Global, due: Format, text: &[u8]) -> bool {
+    match due {
+        Format::One => WorldText::read_old(alloc, text).is_ok(),
+        Format::Two => WorldText::read(alloc, text).is_ok(),
+    }
+}
+
+// Whether a text in this format comes out so after the lines before it, and is read whole only where it is a world.
+fn comes_out(
+    alloc: Global,
+    due: Format,
+    before: &[u8],
+    text: &[u8],
+    wanted: Answer,
+) -> Result<bool, NoMemory> {
     let text = whole_text(alloc, before, text)?;
-    let accepted = WorldText::read(alloc, &text).is_ok();
-    Ok(answered(alloc, &text)? == wanted && accepted == matches!(wanted, World(_)))
+    let accepted = is_read(alloc, due, &text);
+    Ok(answered(alloc, due, &text)? == wanted && accepted == matches!(wanted, World(_)))
 }
 
 // The first of the texts that comes out otherwise, after the lines before each.
 fn other(
     alloc: Global,
+    due: Format,
     before: &[u8],
     texts: &[(&[u8], Answer)],
 ) -> Result<Option<usize>, NoMemory> {
     for (place, (text, wanted)) in texts.iter().enumerate() {
-        if !comes_out(alloc, before, text, *wanted)? {
+        if !comes_out(alloc, due, before, text, *wanted)? {
             return Ok(Some(place));
         }
     }
@@ -334,7 +416,7 @@ fn other_long(
 ) -> Result<Option<usize>, NoMemory> {
     for (place, (text, wanted)) in texts.iter().enumerate() {
         let text = repeated(alloc, *text)?;
-        if !comes_out(alloc, before, &text, *wanted)? {
+        if !comes_out(alloc, Format::Two, before, &text, *wanted)? {
             return Ok(Some(place));
         }
     }
@@ -343,7 +425,13 @@ fn other_long(
 
 #[test]
 fn heads(rt: HostRuntime) -> Result<(), Fail> {
-    assert_eq!(rt; other(rt.alloc(), b"", HEADS)?, None);
+    assert_eq!(rt; other(rt.alloc(), Format::Two, b"", HEADS)?, None);
+    Ok(())
+}
+
+#[test]
+fn old_heads(rt: HostRuntime) -> Result<(), Fail> {
+    assert_eq!(rt; other(rt.alloc(), Format::One, b"", OLD_HEADS)?, None);
     Ok(())
 }
 
@@ -355,13 +443,13 @@ fn long_heads(rt: HostRuntime) -> Result<(), Fail> {
 
 #[test]
 fn roots(rt: HostRuntime) -> Result<(), Fail> {
-    assert_eq!(rt; other(rt.alloc(), HEAD, ROOTS)?, None);
+    assert_eq!(rt; other(rt.alloc(), Format::Two, HEAD, ROOTS)?, None);
     Ok(())
 }
 
 #[test]
 fn trees(rt: HostRuntime) -> Result<(), Fail> {
-    assert_eq!(rt; other(rt.alloc(), HEAD_AND_ROOT, TREES)?, None);
+    assert_eq!(rt; other(rt.alloc(), Format::Two, HEAD_AND_ROOT, TREES)?, None);
     Ok(())
 }
 
@@ -390,7 +478,7 @@ fn has_file(alloc: Global, text: &WorldText) -> Result<bool, NoMemory> {
 
 #[test]
 fn whole(rt: HostRuntime) -> Result<(), Fail> {
-    assert_eq!(rt; answered(rt.alloc(), WHOLE)?, World(14));
+    assert_eq!(rt; answered(rt.alloc(), Format::Two, WHOLE)?, World(14));
     let text = WorldText::read(rt.alloc(), WHOLE)?;
     assert!(rt; has_file(rt.alloc(), &text)?);
     Ok(())
@@ -411,32 +499,35 @@ fn files(alloc: Global, count: u32) -> Result<Vec<u8>, NoMemory> {
 #[test]
 fn many_objects(rt: HostRuntime) -> Result<(), Fail> {
     let text = files(rt.alloc(), 65_535)?;
-    assert_eq!(rt; answered(rt.alloc(), &text)?, Refused(65_540, TooMany));
+    assert_eq!(rt;
+        answered(rt.alloc(), Format::Two, &text)?,
+        Refused(65_540, TooMany)
+    );
     Ok(())
 }
 
 // A world in another spelling, and in the one form in which worlds are written.
 const SPELLED: &[u8] = b"# spaces, escapes and order of words\n\
-    \x20world  1\n\
+    \x20world  2\n\
     levels low high\n\
     categories a b\n\
     bound \"CAP_setuid,cap_KILL\"\n\
     dir \"/\" 755 0 0 low\n\
     dir \"//a b/\" 0700 1 2 low\n\
-    file \"/a b/x\\\"\" 4644 4294967295 7 high:b,a \"x\\x0A\" \" cap_setuid=i cap_kill,cap_chown=pe\"\n\
+    file \"/a b/x\\\"\" 4644 4294967295 7 high:b,a \"x\\x0A\" \" cap_setuid=ie cap_kill,cap_chown=pe\"\n\
     proc high:a 3 4 5,006 \"cap_setgid=p+i CAP_FOWNER=ep\"\n\
     file /none 0 0 0 low \"\" \"=e-e\"\n\
     fifo /p 0 0 0 high:b\n\
     proc low 0 0 - =\n\
     script\n";
 
-const WRITTEN: &[u8] = b"world 1\n\
+const WRITTEN: &[u8] = b"world 2\n\
     levels low high\n\
     categories a b\n\
     bound cap_kill,cap_setuid\n\
     dir / 0755 0 0 low\n\
     dir \"/a b\" 0700 1 2 low\n\
-    file \"/a b/x\\\"\" 4644 4294967295 7 high:a,b \"x\\x0a\" \"cap_chown,cap_kill=ep cap_setuid=i\"\n\
+    file \"/a b/x\\\"\" 4644 4294967295 7 high:a,b \"x\\x0a\" \"cap_chown,cap_kill=ep cap_setuid=ei\"\n\
     file /none 0000 0 0 low \"\"\n\
     fifo /p 0000 0 0 high:b\n\
     proc high:a 3 4 5,6 \"cap_fowner=ep cap_setgid=ip\"\n\
@@ -456,7 +547,7 @@ fn written_round_trip(rt: HostRuntime) -> Result<(), Fail> {
 }
 
 // A world with grades, as it is written.
-const GRADED: &[u8] = b"world 1\n\
+const GRADED: &[u8] = b"world 2\n\
     levels unc\n\
     categories a\n\
     grades low mid high\n\
@@ -472,8 +563,17 @@ fn grades_round_trip(rt: HostRuntime) -> Result<(), Fail> {
     Ok(())
 }
 
+// A text in the old format, after its first line, is written as what it says in the format of today.
+#[test]
+fn old_format_is_written_anew(rt: HostRuntime) -> Result<(), Fail> {
+    let old = whole_text(rt.alloc(), b"world 1", &GRADED[7..])?;
+    let written = WorldText::read_old(rt.alloc(), &old)?.write()?;
+    assert!(rt; written.as_slice() == GRADED);
+    Ok(())
+}
+
 // A file that the process may not see, in a directory of the process's own label.
-const HIDDEN: &[u8] = b"world 1\n\
+const HIDDEN: &[u8] = b"world 2\n\
     levels unc conf sec\n\
     categories a b\n\
     bound all\n\

@@ -6,6 +6,7 @@ use Rattle.std.proofs.lemmas.Bool.{and_parts, not-false, leb-false, ltb-false, b
 use Rattle.std.proofs.lemmas.Option.{cond_some, option_and_then_some, same_Some}
 use Rattle.cap_bits.specs.declared.state.CapState.{CapState}
 use Rattle.cap_bits.specs.CapSet.{is_within}
+use Rattle.cap_bits.specs.FileCaps.{caps_by}
 use Rattle.cap_bits.specs.State.{no_flags}
 use Rattle.fs_path.specs.declared.words.LineWord.{LineWord}
 use Rattle.fs_path.specs.Name.{Name}
@@ -38,7 +39,7 @@ use Rattle.kern_model.specs.Rules.{same_label}
 use Rattle.kern_model.specs.World.{IsWorld, IsWorldObject, IsWorldProc, IsPlaced, ArePlaced, object_with_path, parent_names, objects_at, procs_at, same_names}
 use Rattle.line_text.specs.Reading.{path_of}
 use Rattle.line_text.specs.declared.fault.LineFault.{LineFault}
-use Rattle.line_text.specs.declared.fault.LineFault.TheVariants.{Syntax, UnknownName}
+use Rattle.line_text.specs.declared.fault.LineFault.TheVariants.{OldFormat, Syntax, UnknownName}
 use Rattle.world_text.specs.declared.expecting.Expecting.{Expecting}
 use Rattle.world_text.specs.declared.expecting.Expecting.TheVariants as at
 use Rattle.world_text.specs.declared.tree.ObjectFields.{ObjectFields}
@@ -55,15 +56,17 @@ use Rattle.world_text.specs.Tree.{Tree}
 use Rattle.world_text.specs.Placing.{is_directory, is_above, directory_of, is_root, object_fault, process_fault}
 use Rattle.world_text.specs.CanBeRead.{IsWorldText}
 use Rattle.world_text.specs.Values.{unless, refuse_or, with_form, with_value, bytes_in, caps_of, label_value, label_of, both}
-use Rattle.world_text.specs.Head.{fault_for, unless_fault, due_after, parse_format, parse_names, parse_bound, set_of}
+use Rattle.world_text.specs.Head.{after_format, fault_for, unless_fault, due_after, parse_format, parse_names, parse_bound, set_of}
 use Rattle.world_text.specs.TreeLines.{absolute_path, parse_object, object_of, parse_tree, object_fields_of, parse_plain, parse_file}
 use Rattle.world_text.specs.Processes.{proc_caps, proc_caps_of, ids_of, parse_process, parse_proc, proc_fields_of, parse_proc_line}
 use Rattle.world_text.specs.declared.format.Format.{Format}
+use Rattle.world_text.specs.declared.format.Format.TheVariants.{One, Two}
 use Rattle.world_text.specs.Formats.{format_named}
 use Rattle.world_text.specs.Keywords.{keyword_of}
 use Rattle.world_text.specs.Expecting.{world_of, after_keyword, parse_bound_line, parse_grades, parse_script, parse_after, parse_tree_line, parse_words, parse_line}
-use Rattle.world_text.specs.Reading.{Reading, Accepted, after, reading, read_text}
+use Rattle.world_text.specs.Reading.{Reading, Accepted, after, read_lines, read_text}
 use Rattle.world_text.proofs.BuilderLemmas.{count_more}
+use Rattle.world_text.proofs.FileCapsLemmas.{none_by}
 use Rattle.world_text.proofs.RangeLemmas.{all_and_one}
 
 -- ---- what holds of a reading at each line
@@ -87,7 +90,7 @@ record SoundTree (policy : PolicyNames) (t : Tree) : Type 0 where
   procs_room : (l : Label) → procs_at l t.procs ≤ MAX_PROCS
 
 abbrev SoundExpecting : Expecting → Type 0
-SoundExpecting at.Format = Unit {0}
+SoundExpecting (at.Format due) = Unit {0}
 SoundExpecting (at.Names format list names) = Unit {0}
 SoundExpecting (at.Grades format policy) = MakePolicy policy
 SoundExpecting (at.Bound format policy) = MakePolicy policy
@@ -169,9 +172,15 @@ none_is (Some x) h = absurd (cc)
 
 -- ---- head lines
 
-format_sound : (names : Names) → SoundParsed (parse_format names)
-format_sound (w ∷ []) = form_sound (format_named w) _ (λ format _. goes_on (at.Names format Levels no_names) tt)
-format_sound _ = refuses Syntax
+after_format_sound : (due format : Format) → SoundParsed (after_format due format)
+after_format_sound One One = goes_on (at.Names One Levels no_names) tt
+after_format_sound One Two = refuses Syntax
+after_format_sound Two One = refuses OldFormat
+after_format_sound Two Two = goes_on (at.Names Two Levels no_names) tt
+
+format_sound : (due : Format) (names : Names) → SoundParsed (parse_format due names)
+format_sound due (w ∷ []) = form_sound (format_named w) _ (λ format _. after_format_sound due format)
+format_sound due _ = refuses Syntax
 
 due_sound : (format : Format) (names : PolicyNames) (next : Option NameList) → MakePolicy names → SoundParsed (GoesOn (due_after format names next))
 due_sound format names (Some Levels) h = goes_on (at.Names format Levels names) tt
@@ -260,10 +269,10 @@ rooted_more : (objects : List WorldObject) (o : WorldObject) → AreRooted objec
 rooted_more [] o rooted new parent root order = (first_is o o.path.names refl parent root, tt)
 rooted_more (first ∷ others) o rooted new parent root order = (rooted.0, placed_more (first ∷ []) others o rooted.1 (placed_is first others o o.path.names refl rooted.0.no_names new parent order))
 
-object_sound : (w : PartialWorld) (o : WorldObject) → MakePolicy w.policy → SoundTree w.policy w.builder → IsWorldObject (top_of w.policy) o → SoundParsed (parse_object w o)
+object_sound : (w : PartialWorld) (o : WorldObject) (uniform : Bool) → MakePolicy w.policy → SoundTree w.policy w.builder → IsWorldObject (top_of w.policy) o → SoundParsed (parse_object w o uniform)
 unfolding object_fault
-object_sound w o h s is =
-    first_sound _ _ _ _ (λ new. first_sound _ _ _ _ (λ parent. first_sound _ _ _ _ (λ root. first_sound _ _ _ _ (λ order. first_sound _ _ _ _ (λ fewer.
+object_sound w o uniform h s is =
+    first_sound _ _ _ _ (λ new. first_sound _ _ _ _ (λ parent. first_sound _ _ _ _ (λ root. first_sound _ _ _ _ (λ order. first_sound _ _ _ _ (λ fewer. unless_sound (not uniform) _ _ (λ _.
     goes_on (at.Tree (record w { builder = record w.builder { objects = w.builder.objects ++ o ∷ [] } })) (
       h,
       record {
@@ -273,7 +282,7 @@ object_sound w o h s is =
         objects_room = room_more (λ (o : WorldObject). o.label) w.builder.objects o MAX_OBJECTS s.objects_room fewer;
         procs_room = s.procs_room;
       },
-    ))))))
+    )))))))
 
 -- a label that a word denotes is below top
 label_below : (policy : PolicyNames) (text : List ℕ) (label : Label) → label_of policy text ≡ value.Known label → dominates (top_of policy) label ≡ true
@@ -317,14 +326,14 @@ tree_sound : (w : PartialWorld) (form : Option ObjectFields) (caps : WordValue C
 tree_sound w form caps b h s formed few no_pipe plain =
     form_sound form _ (λ f f_is. value_sound (both f.label caps) _ (λ x is.
     let known = both_known f.label caps x is in
-    object_sound w (object_of f x.0 x.1 b) h s (record {
+    object_sound w (object_of f x.0 (caps_by x.1) b) _ h s (record {
       absolute = (formed f f_is).absolute;
       path = (formed f f_is).path;
       mode = (formed f f_is).mode;
       below = (formed f f_is).below x.0 known.0;
       few = few;
       no_pipe = no_pipe;
-      only_file = plain x.1 known.1;
+      only_file = λ no_file. ap caps_by (plain x.1 known.1 no_file) ∙ none_by;
     })))
 
 -- ---- processes
@@ -448,7 +457,7 @@ grades_sound format policy None ws h fit = bound_line_sound format policy ws h f
 
 words_sound : (expecting : Expecting) (ws : List LineWord) → SoundExpecting expecting → AllFit ws → SoundParsed (parse_words expecting ws)
 unfolding parse_words
-words_sound at.Format ws h fit = keyword_sound _ ws _ fit (λ names _. format_sound names)
+words_sound (at.Format due) ws h fit = keyword_sound _ ws _ fit (λ names _. format_sound due names)
 words_sound (at.Names format list before) ws h fit = keyword_sound _ ws _ fit (λ names _. names_sound format list before names)
 words_sound (at.Grades format policy) ws h fit = grades_sound format policy (after_keyword (list_keyword Grades) ws) ws h fit
 words_sound (at.Bound format policy) ws h fit = bound_line_sound format policy ws h fit
@@ -482,28 +491,28 @@ after_sound (Refuses fault) n rest more h k = λ w m script e. absurd cc
 after_sound (GoesOn expecting) n rest more h k = k expecting (h.expecting_is expecting refl)
 after_sound (Begins world) n rest more h k = λ w m script e. let same : world ≡ w = cc in subst (λ w. SoundWorld w) same (h.world_is world refl)
 
-reading_sound : (n : ℕ) (expecting : Expecting) (ls : List (List ℕ)) → SoundExpecting expecting → SoundReading (reading n expecting ls)
-unfolding reading
+reading_sound : (n : ℕ) (expecting : Expecting) (ls : List (List ℕ)) → SoundExpecting expecting → SoundReading (read_lines n expecting ls)
+unfolding read_lines
 reading_sound n expecting [] h = λ w m script e. absurd cc
 reading_sound n expecting (last ∷ []) h = λ w m script e. absurd cc
 reading_sound n expecting (line ∷ next ∷ ls) h =
     after_sound (parse_line expecting line) n (next ∷ ls) _ (line_sound expecting line h) (λ expecting h. reading_sound (n + 1) expecting (next ∷ ls) h)
 
-text_sound : (text : List ℕ) → SoundReading (read_text text)
-text_sound text = reading_sound 1 at.Format (pieces 10 text) tt
+text_sound : (due : Format) (text : List ℕ) → SoundReading (read_text due text)
+text_sound due text = reading_sound 1 (at.Format due) (pieces 10 text) tt
 
--- an accepted text denotes a world
-pub accepted_world : (text : List ℕ) (w : WorldText) (n : ℕ) (script : List (List ℕ)) → read_text text ≡ Accepted w n script → IsWorld w.world
-accepted_world text w n script e = (text_sound text w n script e).world
+-- an accepted text denotes a world, in each format
+pub accepted_world : (due : Format) (text : List ℕ) (w : WorldText) (n : ℕ) (script : List (List ℕ)) → read_text due text ≡ Accepted w n script → IsWorld w.world
+accepted_world due text w n script e = (text_sound due text w n script e).world
 
 -- the top of an accepted world is the top of its policy
-pub accepted_top : (text : List ℕ) (w : WorldText) (n : ℕ) (script : List (List ℕ)) → read_text text ≡ Accepted w n script → w.world.top ≡ top_of w.policy
-accepted_top text w n script e = (text_sound text w n script e).top
+pub accepted_top : (due : Format) (text : List ℕ) (w : WorldText) (n : ℕ) (script : List (List ℕ)) → read_text due text ≡ Accepted w n script → w.world.top ≡ top_of w.policy
+accepted_top due text w n script e = (text_sound due text w n script e).top
 
 -- the names of an accepted world make a policy
-pub accepted_policy : (text : List ℕ) (w : WorldText) (n : ℕ) (script : List (List ℕ)) → read_text text ≡ Accepted w n script → MakePolicy w.policy
-accepted_policy text w n script e = (text_sound text w n script e).policy
+pub accepted_policy : (due : Format) (text : List ℕ) (w : WorldText) (n : ℕ) (script : List (List ℕ)) → read_text due text ≡ Accepted w n script → MakePolicy w.policy
+accepted_policy due text w n script e = (text_sound due text w n script e).policy
 
 -- an accepted text gives a world whose highest label is that of its policy
-pub accepted_text : (text : List ℕ) (w : WorldText) (n : ℕ) (script : List (List ℕ)) → read_text text ≡ Accepted w n script → IsWorldText w
-accepted_text text w n script e = record { world = accepted_world text w n script e; top = accepted_top text w n script e }
+pub accepted_text : (due : Format) (text : List ℕ) (w : WorldText) (n : ℕ) (script : List (List ℕ)) → read_text due text ≡ Accepted w n script → IsWorldText w
+accepted_text due text w n script e = record { world = accepted_world due text w n script e; top = accepted_top due text w n script e }

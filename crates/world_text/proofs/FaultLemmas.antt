@@ -20,13 +20,14 @@ use Rattle.kern_model.specs.declared.world.WorldProc.{WorldProc}
 use Rattle.kern_model.specs.Kinds.{is_dir, kind_of}
 use Rattle.kern_model.specs.World.{object_with_path, objects_at, procs_at}
 use Rattle.line_text.specs.declared.fault.LineFault.{LineFault}
-use Rattle.line_text.specs.declared.fault.LineFault.TheVariants.{Syntax, Repeated, TooMany}
+use Rattle.line_text.specs.declared.fault.LineFault.TheVariants.{OldFormat, Syntax, Repeated, TooMany, MixedCaps}
 use Rattle.world_text.specs.declared.expecting.Expecting.{Expecting}
 use Rattle.world_text.specs.declared.expecting.Expecting.TheVariants as at
 use Rattle.world_text.specs.declared.expecting.PartialWorld.{PartialWorld}
 use Rattle.world_text.specs.declared.expecting.Parsed.{Parsed}
 use Rattle.world_text.specs.declared.expecting.Parsed.TheVariants.{Refuses, GoesOn, Begins}
 use Rattle.world_text.specs.declared.format.Format.{Format}
+use Rattle.world_text.specs.declared.format.Format.TheVariants.{One, Two}
 use Rattle.world_text.specs.declared.keyword.Keyword.{Keyword}
 use Rattle.world_text.specs.declared.keyword.Keyword.TheVariants as key
 use Rattle.world_text.specs.declared.processes.ProcFields.{ProcFields}
@@ -35,7 +36,7 @@ use Rattle.world_text.specs.declared.values.WordValue.{WordValue}
 use Rattle.world_text.specs.declared.values.WordValue.TheVariants as value
 use Rattle.world_text.specs.declared.world.WorldText.{WorldText}
 use Rattle.world_text.specs.Expecting.{HasFaultOfWorld, is_of_world, world_of, after_keyword, parse_bound_line, parse_grades, parse_script, parse_after, parse_tree_line, parse_words}
-use Rattle.world_text.specs.Head.{unless_fault, due_after, parse_format, parse_names, parse_bound}
+use Rattle.world_text.specs.Head.{after_format, unless_fault, due_after, parse_format, parse_names, parse_bound}
 use Rattle.world_text.specs.Placing.{directory_of, is_above, is_directory, is_root, object_fault, process_fault}
 use Rattle.world_text.specs.Processes.{parse_process, parse_proc, parse_proc_line}
 use Rattle.world_text.specs.TreeLines.{parse_object, parse_tree, parse_plain, parse_file}
@@ -71,9 +72,15 @@ value_has (value.Known x) k rest = rest x
 
 -- ---- head lines
 
-format_has : (names : Names) → HasFaultOfWorld (parse_format names)
-format_has (w ∷ []) = form_has _ _ (λ format. goes_on (at.Names format Levels no_names))
-format_has _ = malformed
+after_format_has : (due format : Format) → HasFaultOfWorld (after_format due format)
+after_format_has One One = goes_on (at.Names One Levels no_names)
+after_format_has One Two = malformed
+after_format_has Two One = refuses OldFormat refl
+after_format_has Two Two = goes_on (at.Names Two Levels no_names)
+
+format_has : (due : Format) (names : Names) → HasFaultOfWorld (parse_format due names)
+format_has due (w ∷ []) = form_has _ _ (after_format_has due)
+format_has due _ = malformed
 
 unless_has : (malformed_names : Bool) (o : Option PolicyError) (parsed : Parsed) → HasFaultOfWorld parsed → HasFaultOfWorld (unless malformed_names Syntax (unless_fault o parsed))
 unless_has true o parsed rest = malformed
@@ -93,14 +100,18 @@ bound_has format policy _ = malformed
 
 -- ---- the tree
 
-object_has : (w : PartialWorld) (o : WorldObject) → HasFaultOfWorld (parse_object w o)
+mixed_has : (mixed : Bool) (expecting : Expecting) → HasFaultOfWorld (unless mixed MixedCaps (GoesOn expecting))
+mixed_has true expecting = refuses MixedCaps refl
+mixed_has false expecting = goes_on expecting
+
+object_has : (w : PartialWorld) (o : WorldObject) (uniform : Bool) → HasFaultOfWorld (parse_object w o uniform)
 unfolding object_fault
-object_has w o =
+object_has w o uniform =
     first_has (is_some (object_with_path w.builder.objects o.path.names)) _ _ _ refl
     (first_has (not (is_root o.path.names || is_directory (directory_of w.builder.objects o.path.names))) _ _ _ refl
     (first_has (is_root o.path.names && not (is_dir (kind_of o.body) && dominates bottom o.label)) _ _ _ refl
     (first_has (not (is_above o.label (directory_of w.builder.objects o.path.names))) _ _ _ refl
-    (first_has (nat_le MAX_OBJECTS (objects_at o.label w.builder.objects)) _ None _ refl (goes_on _)))))
+    (first_has (nat_le MAX_OBJECTS (objects_at o.label w.builder.objects)) _ None _ refl (mixed_has (not uniform) _)))))
 
 process_has : (w : PartialWorld) (p : WorldProc) → HasFaultOfWorld (parse_process w p)
 unfolding process_fault
@@ -108,7 +119,7 @@ process_has w p =
     first_has (length w.builder.objects == 0) _ _ _ refl (first_has (nat_le MAX_PROCS (procs_at p.label w.builder.procs)) _ None _ refl (goes_on _))
 
 tree_has : (w : PartialWorld) (form : Option ObjectFields) (caps : WordValue CapState) (b : Body) → HasFaultOfWorld (parse_tree w form caps b)
-tree_has w form caps b = form_has form _ (λ f. value_has _ _ (λ x. object_has w _))
+tree_has w form caps b = form_has form _ (λ f. value_has _ _ (λ x. object_has w _ _))
 
 proc_has : (w : PartialWorld) (form : Option ProcFields) (caps : WordValue CapState) → HasFaultOfWorld (parse_proc w form caps)
 proc_has w form caps = form_has form _ (λ f. value_has _ _ (λ x. process_has w _))
@@ -157,7 +168,7 @@ grades_have format policy None ws = bound_line_has format policy ws
 
 words_have : (expecting : Expecting) (ws : List LineWord) → HasFaultOfWorld (parse_words expecting ws)
 unfolding parse_words
-words_have at.Format ws = form_has (after_keyword (codes "world") ws) _ format_has
+words_have (at.Format due) ws = form_has (after_keyword (codes "world") ws) _ (format_has due)
 words_have (at.Names format list names) ws = form_has (after_keyword (keyword_of list) ws) _ (names_have format list names)
 words_have (at.Grades format policy) ws = grades_have format policy (after_keyword (keyword_of Grades) ws) ws
 words_have (at.Bound format policy) ws = bound_line_has format policy ws

@@ -2,7 +2,7 @@
 use Rattle.std.specs.Prelude.{◌≡◌, false, Option, Some, refl}
 use Rattle.std.proofs.Common.{ap, ◌∙◌}
 use Rattle.fs_path.specs.declared.words.LineWord.{LineWord}
-use Rattle.kern_model.specs.Named.{named}
+use Rattle.kern_model.specs.Named.{find_named}
 use Rattle.kern_model.proofs.NamedLaws.{found_by}
 use Rattle.world_text.specs.declared.keyword.Keyword.{Keyword}
 use Rattle.world_text.specs.declared.keyword.Keyword.TheVariants as key
@@ -10,7 +10,7 @@ use Rattle.world_text.specs.Keywords.{keyword_word, all_keywords, keyword_named,
 use Rattle.world_text.specs.Written.{bare}
 
 keyword_round_trip : (k : Keyword) → keyword_named (keyword_word k) ≡ Some k
-unfolding named
+unfolding find_named
 keyword_round_trip key.Dir = refl
 keyword_round_trip _ = refl
 

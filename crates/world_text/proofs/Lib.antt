@@ -5,6 +5,7 @@ pub mod PlacingLemmas
 pub mod FormatLaws
 pub mod KeywordLaws
 pub mod LineLemmas
+pub mod FileCapsLemmas
 pub mod WordLemmas
 pub mod ReadingLemmas
 pub mod Accepted

@@ -1,5 +1,5 @@
 -- What lines of names and of labels are parsed as.
-use Rattle.std.proofs.Common.{◌≡◌, ℕ, true, List, [], refl, sym, ◌∙◌, ap, Option, Some, None}
+use Rattle.std.proofs.Common.{◌≡◌, ℕ, Bool, true, false, not, List, [], refl, sym, ◌∙◌, ap, Option, Some, None}
 use Rattle.std.specs.Prelude.{◌∷◌, ◌++◌, option_and_then, is_some}
 use Rattle.std.proofs.lemmas.Bool.{cond-true}
 use Rattle.lab_lattice.specs.Label.{Label}
@@ -8,12 +8,14 @@ use Rattle.lab_text.specs.Text.{LabelWords, label_words, is_label_text, label_of
 use Rattle.kern_model.specs.declared.world.WorldObject.{WorldObject}
 use Rattle.kern_model.specs.declared.world.WorldProc.{WorldProc}
 use Rattle.line_text.specs.declared.fault.LineFault.{LineFault}
+use Rattle.line_text.specs.declared.fault.LineFault.TheVariants.{MixedCaps}
 use Rattle.world_text.specs.declared.expecting.Expecting.TheVariants as at
+use Rattle.world_text.specs.declared.expecting.Parsed.{Parsed}
 use Rattle.world_text.specs.declared.expecting.Parsed.TheVariants.{Refuses, GoesOn}
 use Rattle.world_text.specs.declared.expecting.PartialWorld.{PartialWorld}
 use Rattle.world_text.specs.declared.values.WordValue.TheVariants as value
 use Rattle.world_text.specs.Tree.{Tree}
-use Rattle.world_text.specs.Values.{refuse_or, label_value, label_of}
+use Rattle.world_text.specs.Values.{unless, refuse_or, label_value, label_of}
 use Rattle.world_text.specs.TreeLines.{parse_object}
 use Rattle.world_text.specs.Processes.{parse_process}
 use Rattle.world_text.specs.Placing.{object_fault, process_fault}
@@ -34,12 +36,19 @@ label_known p text label e = sym (cond-true _ _ _ (parsed_form p text label e) �
 
 -- ---- an object or a process, with a fault and without one
 
-pub object_refused : (w : PartialWorld) (o : WorldObject) (fault : LineFault) → Some fault ≡ object_fault w.builder o → Refuses fault ≡ parse_object w o
-object_refused w o fault e = ap (λ f. refuse_or f (GoesOn (at.Tree (record w { builder = record w.builder { objects = w.builder.objects ++ o ∷ [] } })))) e
+-- what comes of an object, by its fault and by whether its capabilities are uniform
+abbrev object_parsed : PartialWorld → WorldObject → Option LineFault → Bool → Parsed
+object_parsed w o fault uniform = refuse_or fault (unless (not uniform) MixedCaps (GoesOn (at.Tree (record w { builder = record w.builder { objects = w.builder.objects ++ o ∷ [] } }))))
 
-pub object_put : (w : PartialWorld) (t : Tree) (o : WorldObject) → None ≡ object_fault w.builder o → t ≡ record w.builder { objects = w.builder.objects ++ o ∷ [] } → GoesOn (at.Tree (record w { builder = t })) ≡ parse_object w o
-object_put w t o e is =
-    ap (λ (t : Tree). GoesOn (at.Tree (record w { builder = t }))) is ∙ ap (λ f. refuse_or f (GoesOn (at.Tree (record w { builder = record w.builder { objects = w.builder.objects ++ o ∷ [] } })))) e
+pub object_refused : (w : PartialWorld) (o : WorldObject) (uniform : Bool) (fault : LineFault) → Some fault ≡ object_fault w.builder o → Refuses fault ≡ parse_object w o uniform
+object_refused w o uniform fault e = ap (λ f. object_parsed w o f uniform) e
+
+pub object_mixed : (w : PartialWorld) (o : WorldObject) (uniform : Bool) → None ≡ object_fault w.builder o → uniform ≡ false → Refuses MixedCaps ≡ parse_object w o uniform
+object_mixed w o uniform e mixed = λ i. object_parsed w o (e i) (sym mixed i)
+
+pub object_put : (w : PartialWorld) (t : Tree) (o : WorldObject) (uniform : Bool) → None ≡ object_fault w.builder o → uniform ≡ true → t ≡ record w.builder { objects = w.builder.objects ++ o ∷ [] }
+    → GoesOn (at.Tree (record w { builder = t })) ≡ parse_object w o uniform
+object_put w t o uniform e fine is = ap (λ (t : Tree). GoesOn (at.Tree (record w { builder = t }))) is ∙ (λ i. object_parsed w o (e i) (sym fine i))
 
 pub process_refused : (w : PartialWorld) (p : WorldProc) (fault : LineFault) → Some fault ≡ process_fault w.builder p → Refuses fault ≡ parse_process w p
 process_refused w p fault e = ap (λ f. refuse_or f (GoesOn (at.Tree (record w { builder = record w.builder { procs = w.builder.procs ++ p ∷ [] } })))) e

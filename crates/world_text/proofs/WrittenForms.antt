@@ -4,7 +4,7 @@ use Rattle.std.specs.List.{AllByRecursion}
 use Rattle.fs_path.specs.Path.{PathValue, HasForm}
 use Rattle.lab_lattice.specs.Label.{Label, dominates}
 use Rattle.cap_bits.specs.CapSet.{is_within}
-use Rattle.cap_bits.specs.State.{no_flags}
+use Rattle.cap_bits.specs.FileCaps.{no_file_caps}
 use Rattle.kern_model.specs.declared.numbers.Ids.{Ids}
 use Rattle.kern_model.specs.declared.objects.Body.{Body}
 use Rattle.kern_model.specs.declared.objects.Body.TheVariants as body
@@ -88,8 +88,8 @@ module _ (top : Label) (os : List WorldObject) (are : AllByRecursion (IsWorldObj
   pub objects_below : AllByRecursion (λ (o : WorldObject). dominates top o.label ≡ true) os
   objects_below = each (IsWorldObject top) (IsWorldObject top) (λ (o : WorldObject). dominates top o.label ≡ true) (λ o is _. is.below) os are are
 
-  pub objects_plain : AllByRecursion (λ (o : WorldObject). is_file (kind_of o.body) ≡ false → o.attr.caps ≡ no_flags) os
-  objects_plain = each (IsWorldObject top) (IsWorldObject top) (λ (o : WorldObject). is_file (kind_of o.body) ≡ false → o.attr.caps ≡ no_flags) (λ o is _. is.only_file) os are are
+  pub objects_plain : AllByRecursion (λ (o : WorldObject). is_file (kind_of o.body) ≡ false → o.attr.caps ≡ no_file_caps) os
+  objects_plain = each (IsWorldObject top) (IsWorldObject top) (λ (o : WorldObject). is_file (kind_of o.body) ≡ false → o.attr.caps ≡ no_file_caps) (λ o is _. is.only_file) os are are
 
 module _ (top : Label) (ps : List WorldProc) (are : AllByRecursion (IsWorldProc top) ps) where
   pub canonical_procs : AllByRecursion (λ (p : WorldProc). IsWrittenIds p.ids) ps → AllByRecursion (λ (p : WorldProc). IsCanonicalIds p.ids) ps

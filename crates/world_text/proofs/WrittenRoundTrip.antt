@@ -9,13 +9,18 @@ use Rattle.std.proofs.lemmas.List.Sums.{sum_by-append, sum_by-cons}
 use Rattle.std.proofs.lemmas.List.{length-append, length-map}
 use Rattle.cap_bits.specs.declared.state.CapState.{CapState}
 use Rattle.cap_bits.specs.CapSet.{CapSet, is_within}
+use Rattle.cap_bits.specs.declared.file_caps.FileCaps.{FileCaps}
+use Rattle.cap_bits.specs.FileCaps.{no_file_caps, shown}
 use Rattle.cap_bits.specs.State.{no_flags}
+use Rattle.cap_bits.proofs.RoundTrips.{uniform-shown}
 use Rattle.cap_clause.specs.Written.{caps_text, set_text}
 use Rattle.fs_path.specs.declared.words.LineWord.{LineWord}
 use Rattle.fs_path.proofs.RoundTrip.{number_round_trip, mode_round_trip, groups_round_trip, decimal_bare, mode_bare, groups_bare}
 use Rattle.fs_path.specs.Name.{Name}
 use Rattle.fs_path.specs.Options.{then}
 use Rattle.fs_path.specs.Path.{PathValue}
+use Rattle.fs_path.specs.Split.{pieces}
+use Rattle.fs_path.proofs.SplitLemmas.{pieces_first}
 use Rattle.fs_path.specs.Values.{mode_text, groups_text}
 use Rattle.fs_path.specs.Words.{has_spelling, with_quotes_if_needed, spelling, line_text}
 use Rattle.lab_lattice.specs.Label.{Label, dominates, bottom}
@@ -34,7 +39,7 @@ use Rattle.kern_model.specs.declared.objects.Body.{Body}
 use Rattle.kern_model.specs.declared.objects.Body.TheVariants as body
 use Rattle.kern_model.specs.declared.world.WorldObject.{WorldObject}
 use Rattle.kern_model.specs.declared.world.WorldProc.{WorldProc}
-use Rattle.kern_model.specs.Named.{named}
+use Rattle.kern_model.specs.Named.{find_named}
 use Rattle.kern_model.specs.Kinds.{kind_of}
 use Rattle.kern_model.specs.Kinds.{is_dir, is_file}
 use Rattle.kern_model.specs.Rules.{same_label}
@@ -43,7 +48,7 @@ use Rattle.line_text.specs.Ranges.{IsNumber}
 use Rattle.world_text.specs.declared.expecting.Expecting.{Expecting}
 use Rattle.world_text.specs.declared.expecting.Expecting.TheVariants as at
 use Rattle.world_text.specs.declared.format.Format.{Format}
-use Rattle.world_text.specs.declared.format.Format.TheVariants.{One}
+use Rattle.world_text.specs.declared.format.Format.TheVariants.{One, Two}
 use Rattle.world_text.specs.declared.expecting.Parsed.{Parsed}
 use Rattle.world_text.specs.declared.expecting.Parsed.TheVariants.{GoesOn, Begins}
 use Rattle.world_text.specs.declared.world.WorldText.{WorldText}
@@ -57,10 +62,11 @@ use Rattle.world_text.specs.TreeLines.{object_fields_of, parse_object, parse_tre
 use Rattle.world_text.specs.Processes.{proc_caps_of, proc_fields_of, ids_of, parse_process}
 use Rattle.world_text.specs.Expecting.{world_of, parse_words, parse_line}
 use Rattle.world_text.specs.Formats.{format_word}
-use Rattle.world_text.specs.Reading.{Accepted, after, reading, read_text}
-use Rattle.world_text.specs.Written.{bare, quoted, path_text, names_words, head_words, body_keyword, body_words, object_words, process_words, script_words, lines_of, next_number, written}
+use Rattle.world_text.specs.Reading.{Accepted, after, read_lines, read_text}
+use Rattle.world_text.specs.Written.{bare, quoted_form, path_text, names_words, head_words, body_keyword, body_words, object_words, process_words, script_words, lines_of, next_number, text_of_world}
 use Rattle.world_text.specs.CanBeRead.{IsShort, CanBeRead}
 use Rattle.lab_text.proofs.BareLemmas.{label_bare, label_name_bare}
+use Rattle.world_text.proofs.FileCapsLemmas.{caps_by-shown}
 use Rattle.world_text.proofs.RangeLemmas.{all_parts}
 use Rattle.world_text.proofs.WrittenForms.{IsCanonicalBody, IsCanonicalObject, IsCanonicalIds, canonical_objects, objects_below, objects_plain, canonical_procs, procs_below, procs_within}
 use Rattle.world_text.proofs.WrittenWords.{written_pieces, pieces_round_trip, begins_line, line_is}
@@ -72,33 +78,45 @@ use Rattle.world_text.proofs.WrittenValues.{path_round_trip, path_spelling, labe
 abbrev text_of : List LineWord → List ℕ
 text_of words = line_text (map spelling words)
 
+-- pieces of a text, of which there is at least one
+record IsRest (pieces : List (List ℕ)) : Type 0 where
+  first : List ℕ
+  others : List (List ℕ)
+  is : pieces ≡ first ∷ others
+
 -- after a line the reading goes on with what is expected next
-step_on : (n : ℕ) (expecting next : Expecting) (words : List LineWord) (more : List (List LineWord)) → parse_line expecting (text_of words) ≡ GoesOn next
-    → reading n expecting (written_pieces (words ∷ more)) ≡ reading (n + 1) next (written_pieces more)
-unfolding reading
-step_on n expecting next words [] e = ap (λ (parsed : Parsed). after parsed n ([] ∷ []) (λ expecting. reading (n + 1) expecting ([] ∷ []))) e
-step_on n expecting next words (m ∷ ms) e = ap (λ (parsed : Parsed). after parsed n (written_pieces (m ∷ ms)) (λ expecting. reading (n + 1) expecting (written_pieces (m ∷ ms)))) e
+step_on : (n : ℕ) (expecting next : Expecting) (words : List LineWord) (more : List (List LineWord)) (rest : List (List ℕ)) → IsRest rest → parse_line expecting (text_of words) ≡ GoesOn next
+    → read_lines n expecting (written_pieces (words ∷ more) rest) ≡ read_lines (n + 1) next (written_pieces more rest)
+unfolding read_lines
+step_on n expecting next words [] rest some e =
+    ap (λ (ls : List (List ℕ)). read_lines n expecting (text_of words ∷ ls)) some.is
+    ∙ ap (λ (parsed : Parsed). after parsed n (some.first ∷ some.others) (λ expecting. read_lines (n + 1) expecting (some.first ∷ some.others))) e
+    ∙ ap (read_lines (n + 1) next) (sym some.is)
+step_on n expecting next words (m ∷ ms) rest some e = ap (λ (parsed : Parsed). after parsed n (written_pieces (m ∷ ms) rest) (λ expecting. read_lines (n + 1) expecting (written_pieces (m ∷ ms) rest))) e
 
 -- the world begins after the last line
-step_last : (n : ℕ) (expecting : Expecting) (w : WorldText) (words : List LineWord) → parse_line expecting (text_of words) ≡ Begins w
-    → reading n expecting (written_pieces (words ∷ [])) ≡ Accepted w (n + 1) ([] ∷ [])
-unfolding reading
-step_last n expecting w words e = ap (λ (parsed : Parsed). after parsed n ([] ∷ []) (λ expecting. reading (n + 1) expecting ([] ∷ []))) e
+step_last : (n : ℕ) (expecting : Expecting) (w : WorldText) (words : List LineWord) (rest : List (List ℕ)) → IsRest rest → parse_line expecting (text_of words) ≡ Begins w
+    → read_lines n expecting (written_pieces (words ∷ []) rest) ≡ Accepted w (n + 1) rest
+unfolding read_lines
+step_last n expecting w words rest some e =
+    ap (λ (ls : List (List ℕ)). read_lines n expecting (text_of words ∷ ls)) some.is
+    ∙ ap (λ (parsed : Parsed). after parsed n (some.first ∷ some.others) (λ expecting. read_lines (n + 1) expecting (some.first ∷ some.others))) e
+    ∙ ap (Accepted w (n + 1)) (sym some.is)
 
 -- the line of each item adds it after those before it
 abbrev EachAdds : {X : Type 0} → (X → List LineWord) → (List X → Expecting) → List X → List X → Type 0
 EachAdds words expecting done [] = Unit {0}
 EachAdds words expecting done (x ∷ xs) = (parse_line (expecting done) (text_of (words x)) ≡ GoesOn (expecting (done ++ x ∷ []))) × EachAdds words expecting (done ++ x ∷ []) xs
 
-steps_on : {X : Type 0} (words : X → List LineWord) (expecting : List X → Expecting) (n : ℕ) (done xs : List X) (more : List (List LineWord)) → EachAdds words expecting done xs
-    → reading n (expecting done) (written_pieces (map words xs ++ more)) ≡ reading (n + length xs) (expecting (done ++ xs)) (written_pieces more)
-steps_on words expecting n done [] more adds =
+steps_on : {X : Type 0} (words : X → List LineWord) (expecting : List X → Expecting) (n : ℕ) (done xs : List X) (more : List (List LineWord)) (rest : List (List ℕ)) → IsRest rest → EachAdds words expecting done xs
+    → read_lines n (expecting done) (written_pieces (map words xs ++ more) rest) ≡ read_lines (n + length xs) (expecting (done ++ xs)) (written_pieces more rest)
+steps_on words expecting n done [] more rest some adds =
     let same : n ≡ n + 0 = omega arith in
-    λ i. reading (same i) (expecting (sym (append-nil done) i)) (written_pieces more)
-steps_on {X = X} words expecting n done (x ∷ xs) more adds =
+    λ i. read_lines (same i) (expecting (sym (append-nil done) i)) (written_pieces more rest)
+steps_on {X = X} words expecting n done (x ∷ xs) more rest some adds =
     let same : n + 1 + length xs ≡ n + length (x ∷ xs) = omega arith in
-    step_on n (expecting done) (expecting (done ++ x ∷ [])) (words x) (map words xs ++ more) adds.0
-    ∙ steps_on words expecting (n + 1) (done ++ x ∷ []) xs more adds.1 ∙ (λ i. reading (same i) (expecting (append_assoc done (x ∷ []) xs i)) (written_pieces more))
+    step_on n (expecting done) (expecting (done ++ x ∷ [])) (words x) (map words xs ++ more) rest some adds.0
+    ∙ steps_on words expecting (n + 1) (done ++ x ∷ []) xs more rest some adds.1 ∙ (λ i. read_lines (same i) (expecting (append_assoc done (x ∷ []) xs i)) (written_pieces more rest))
 
 -- ---- head lines
 
@@ -114,10 +132,12 @@ names_spelling (n ∷ ns) h =
 
 format_spelling : (format : Format) → has_spelling (bare (format_word format)) ≡ true
 format_spelling One = refl
+format_spelling Two = refl
 
-format_line : (format : Format) → parse_line at.Format (text_of (names_words (codes "world") (format_word format ∷ []))) ≡ GoesOn (at.Names format Levels no_names)
-unfolding named parse_words
-format_line One = line_is at.Format (codes "world") (bare (codes "1") ∷ []) refl refl (omega arith)
+format_line : (format : Format) → parse_line (at.Format format) (text_of (names_words (codes "world") (format_word format ∷ []))) ≡ GoesOn (at.Names format Levels no_names)
+unfolding find_named parse_words
+format_line One = line_is (at.Format One) (codes "world") (bare (codes "1") ∷ []) refl refl (omega arith)
+format_line Two = line_is (at.Format Two) (codes "world") (bare (codes "2") ∷ []) refl refl (omega arith)
 
 names_begin : (list : NameList) → begins_line (keyword_of list) ≡ true
 names_begin Levels = refl
@@ -182,34 +202,34 @@ abbrev policy_of : (levels cats grades : Names) → PolicyNames
 policy_of levels cats grades = record { levels = levels; cats = cats; grades = grades }
 
 -- after the lines of levels and categories, grades are due
-names_read : (format : Format) (levels cats : Names) (more : List (List LineWord)) → MakePolicy (policy_of levels cats []) → IsShort (names_words (codes "levels") levels) → IsShort (names_words (codes "categories") cats)
-    → reading 1 at.Format (written_pieces (names_words (codes "world") (format_word format ∷ []) ∷ names_words (codes "levels") levels ∷ names_words (codes "categories") cats ∷ more))
-    ≡ reading 4 (at.Grades format (policy_of levels cats [])) (written_pieces more)
-names_read format levels cats more h first second =
+names_read : (format : Format) (levels cats : Names) (more : List (List LineWord)) (rest : List (List ℕ)) → IsRest rest → MakePolicy (policy_of levels cats []) → IsShort (names_words (codes "levels") levels) → IsShort (names_words (codes "categories") cats)
+    → read_lines 1 (at.Format format) (written_pieces (names_words (codes "world") (format_word format ∷ []) ∷ names_words (codes "levels") levels ∷ names_words (codes "categories") cats ∷ more) rest)
+    ≡ read_lines 4 (at.Grades format (policy_of levels cats [])) (written_pieces more rest)
+names_read format levels cats more rest some h first second =
     let policy = policy_of levels cats [] in
     let known = policy_of levels [] [] in
     let after_levels = names_words (codes "categories") cats ∷ more in
-    step_on 1 at.Format (at.Names format Levels no_names) (names_words (codes "world") (format_word format ∷ [])) (names_words (codes "levels") levels ∷ after_levels) (format_line format)
-    ∙ step_on 2 (at.Names format Levels no_names) (at.Names format Categories known) (names_words (codes "levels") levels) after_levels
+    step_on 1 (at.Format format) (at.Names format Levels no_names) (names_words (codes "world") (format_word format ∷ [])) (names_words (codes "levels") levels ∷ after_levels) rest some (format_line format)
+    ∙ step_on 2 (at.Names format Levels no_names) (at.Names format Categories known) (names_words (codes "levels") levels) after_levels rest some
     (names_line format Levels no_names levels (policy_facts policy h Levels).named (levels_alone policy h) first)
-    ∙ step_on 3 (at.Names format Categories known) (at.Grades format policy) (names_words (codes "categories") cats) more
+    ∙ step_on 3 (at.Names format Categories known) (at.Grades format policy) (names_words (codes "categories") cats) more rest some
     (names_line format Categories known cats (policy_facts policy h Categories).named h second)
 
 -- after the head lines, a tree line is expected
-head_read : (format : Format) (levels cats grades : Names) (bound : CapSet) (more : List (List LineWord)) → MakePolicy (policy_of levels cats grades) → AllByRecursion IsShort (head_words format (policy_of levels cats grades) bound)
-    → reading 1 at.Format (written_pieces (head_words format (policy_of levels cats grades) bound ++ more))
-    ≡ reading (length (head_words format (policy_of levels cats grades) bound) + 1) (tree_at format (policy_of levels cats grades) bound [] []) (written_pieces more)
-head_read format levels cats [] bound more h short =
+head_read : (format : Format) (levels cats grades : Names) (bound : CapSet) (more : List (List LineWord)) (rest : List (List ℕ)) → IsRest rest → MakePolicy (policy_of levels cats grades) → AllByRecursion IsShort (head_words format (policy_of levels cats grades) bound)
+    → read_lines 1 (at.Format format) (written_pieces (head_words format (policy_of levels cats grades) bound ++ more) rest)
+    ≡ read_lines (length (head_words format (policy_of levels cats grades) bound) + 1) (tree_at format (policy_of levels cats grades) bound [] []) (written_pieces more rest)
+head_read format levels cats [] bound more rest some h short =
     let policy = policy_of levels cats [] in
-    names_read format levels cats (bound_words bound ∷ more) h short.1.0 short.1.1.0
-    ∙ step_on 4 (at.Grades format policy) (tree_at format policy bound [] []) (bound_words bound) more (bound_line (at.Grades format policy) format policy bound (no_grades_said format policy bound) short.1.1.1.0)
-head_read format levels cats (name ∷ names) bound more h short =
+    names_read format levels cats (bound_words bound ∷ more) rest some h short.1.0 short.1.1.0
+    ∙ step_on 4 (at.Grades format policy) (tree_at format policy bound [] []) (bound_words bound) more rest some (bound_line (at.Grades format policy) format policy bound (no_grades_said format policy bound) short.1.1.1.0)
+head_read format levels cats (name ∷ names) bound more rest some h short =
     let policy = policy_of levels cats (name ∷ names) in
     let before = policy_of levels cats [] in
     let grades = names_words (codes "grades") (name ∷ names) in
-    names_read format levels cats (grades ∷ bound_words bound ∷ more) (without_grades policy h) short.1.0 short.1.1.0
-    ∙ step_on 4 (at.Grades format before) (at.Bound format policy) grades (bound_words bound ∷ more) (grades_line format before name names (policy_facts policy h Grades).named h short.1.1.1.0)
-    ∙ step_on 5 (at.Bound format policy) (tree_at format policy bound [] []) (bound_words bound) more (bound_line (at.Bound format policy) format policy bound (bound_said format policy bound) short.1.1.1.1.0)
+    names_read format levels cats (grades ∷ bound_words bound ∷ more) rest some (without_grades policy h) short.1.0 short.1.1.0
+    ∙ step_on 4 (at.Grades format before) (at.Bound format policy) grades (bound_words bound ∷ more) rest some (grades_line format before name names (policy_facts policy h Grades).named h short.1.1.1.0)
+    ∙ step_on 5 (at.Bound format policy) (tree_at format policy bound [] []) (bound_words bound) more rest some (bound_line (at.Bound format policy) format policy bound (bound_said format policy bound) short.1.1.1.1.0)
 
 -- ---- values that are there
 
@@ -247,10 +267,11 @@ object_fields_round_trip policy o h valid is =
     then_some _ _ _ (path_round_trip o.path is.path) ∙ then_some _ _ _ (mode_round_trip o.attr.mode is.mode) ∙ then_some _ _ _ (number_round_trip o.attr.owner is.owner)
     ∙ then_some _ _ _ (number_round_trip o.attr.group is.group)
 
-tree_says : (w : PartialWorld) (o : WorldObject) (caps : WordValue CapState) → MakePolicy w.policy → is_valid w.policy o.label ≡ true → IsCanonicalObject o → caps ≡ value.Known o.attr.caps
-    → parse_tree w (object_fields_of w.policy (path_text o.path.names) (mode_text o.attr.mode) (decimal o.attr.owner) (decimal o.attr.group) (label_text w.policy o.label)) caps o.body ≡ parse_object w o
+tree_says : (w : PartialWorld) (o : WorldObject) (caps : WordValue CapState) → MakePolicy w.policy → is_valid w.policy o.label ≡ true → IsCanonicalObject o → caps ≡ value.Known (shown o.attr.caps)
+    → parse_tree w (object_fields_of w.policy (path_text o.path.names) (mode_text o.attr.mode) (decimal o.attr.owner) (decimal o.attr.group) (label_text w.policy o.label)) caps o.body ≡ parse_object w o true
 tree_says w o caps h valid is e =
-    form_some _ _ _ (object_fields_round_trip w.policy o h valid is) ∙ values_known (label_of w.policy (label_text w.policy o.label)) caps o.label o.attr.caps _ (label_round_trip w.policy o.label h valid) e
+    form_some _ _ _ (object_fields_round_trip w.policy o h valid is) ∙ values_known (label_of w.policy (label_text w.policy o.label)) caps o.label (shown o.attr.caps) _ (label_round_trip w.policy o.label h valid) e
+    ∙ (λ i. parse_object w (record o { attr = record o.attr { caps = caps_by-shown o.attr.caps i } }) (uniform-shown o.attr.caps i))
 
 -- an object of these parts
 abbrev object_from : PathValue → Label → Attr → Body → WorldObject
@@ -260,26 +281,26 @@ object_from path label attr b = record { path = path; label = label; attr = attr
 abbrev file_words : PolicyNames → PathValue → Label → Attr → List ℕ → Bool → List LineWord
 file_words policy path label attr bytes none =
     bare (codes "file") ∷ with_quotes_if_needed (path_text path.names) ∷ bare (mode_text attr.mode) ∷ bare (decimal attr.owner) ∷ bare (decimal attr.group) ∷ bare (label_text policy label)
-    ∷ quoted bytes ∷ cond none [] (quoted (caps_text attr.caps) ∷ [])
+    ∷ quoted_form bytes ∷ cond none [] (quoted_form (caps_text (shown attr.caps)) ∷ [])
 
 object_says : (w : PartialWorld) (path : PathValue) (label : Label) (attr : Attr) (b : Body) → MakePolicy w.policy → is_valid w.policy label ≡ true
-    → IsCanonicalObject (object_from path label attr b) → (is_file (kind_of b) ≡ false → attr.caps ≡ no_flags)
-    → parse_words (at.Tree w) (object_words w.policy (object_from path label attr b)) ≡ parse_object w (object_from path label attr b)
-unfolding named parse_words object_words
-object_says w path label attr body.Dir h valid is plain = tree_says w (object_from path label attr body.Dir) (value.Known no_flags) h valid is (ap (λ (c : CapState). value.Known c) (sym (plain refl)))
-object_says w path label attr body.Fifo h valid is plain = tree_says w (object_from path label attr body.Fifo) (value.Known no_flags) h valid is (ap (λ (c : CapState). value.Known c) (sym (plain refl)))
+    → IsCanonicalObject (object_from path label attr b) → (is_file (kind_of b) ≡ false → attr.caps ≡ no_file_caps)
+    → parse_words (at.Tree w) (object_words w.policy (object_from path label attr b)) ≡ parse_object w (object_from path label attr b) true
+unfolding find_named parse_words object_words
+object_says w path label attr body.Dir h valid is plain = tree_says w (object_from path label attr body.Dir) (value.Known no_flags) h valid is (ap (λ (c : FileCaps). value.Known (shown c)) (sym (plain refl)))
+object_says w path label attr body.Fifo h valid is plain = tree_says w (object_from path label attr body.Fifo) (value.Known no_flags) h valid is (ap (λ (c : FileCaps). value.Known (shown c)) (sym (plain refl)))
 object_says w path label attr body.Pipe h valid is plain = absurd is.body
-object_says w path label attr (body.File bytes) h valid is plain = by_caps (same_bytes (caps_text attr.caps) (codes "=")) refl
+object_says w path label attr (body.File bytes) h valid is plain = by_caps (same_bytes (caps_text (shown attr.caps)) (codes "=")) refl
   where
     file : WorldObject
     file = object_from path label attr (body.File bytes)
 
-    by_caps : (none : Bool) → same_bytes (caps_text attr.caps) (codes "=") ≡ none → parse_words (at.Tree w) (file_words w.policy path label attr bytes (same_bytes (caps_text attr.caps) (codes "="))) ≡ parse_object w file
+    by_caps : (none : Bool) → same_bytes (caps_text (shown attr.caps)) (codes "=") ≡ none → parse_words (at.Tree w) (file_words w.policy path label attr bytes (same_bytes (caps_text (shown attr.caps)) (codes "="))) ≡ parse_object w file true
     by_caps true e =
         ap (λ v. parse_words (at.Tree w) (file_words w.policy path label attr bytes v)) e
-        ∙ tree_says w file (value.Known no_flags) h valid is (ap (λ (c : CapState). value.Known c) (sym (none_known attr.caps e)))
+        ∙ tree_says w file (value.Known no_flags) h valid is (ap (λ (c : CapState). value.Known c) (sym (none_known (shown attr.caps) e)))
     by_caps false e =
-        ap (λ v. parse_words (at.Tree w) (file_words w.policy path label attr bytes v)) e ∙ tree_says w file (caps_of (caps_text attr.caps)) h valid is (caps_known attr.caps)
+        ap (λ v. parse_words (at.Tree w) (file_words w.policy path label attr bytes v)) e ∙ tree_says w file (caps_of (caps_text (shown attr.caps))) h valid is (caps_known (shown attr.caps))
 
 keyword_spelling : (b : Body) → has_spelling (bare (body_keyword b)) ≡ true
 keyword_spelling body.Dir = refl
@@ -296,7 +317,7 @@ keyword_begins body.Pipe = refl
 body_spelling : (b : Body) (caps : CapState) → IsCanonicalBody b → list_all has_spelling (body_words b caps) ≡ true
 body_spelling body.Dir caps h = refl
 body_spelling (body.File bytes) caps h =
-    and_from _ _ h (elim (same_bytes (caps_text caps) (codes "=")) as (λ v. list_all has_spelling (cond v [] (quoted (caps_text caps) ∷ [])) ≡ true) [ true ↦ refl | false ↦ and_from _ _ (caps_spelling caps) refl ])
+    and_from _ _ h (elim (same_bytes (caps_text caps) (codes "=")) as (λ v. list_all has_spelling (cond v [] (quoted_form (caps_text caps) ∷ [])) ≡ true) [ true ↦ refl | false ↦ and_from _ _ (caps_spelling caps) refl ])
 body_spelling body.Fifo caps h = refl
 body_spelling body.Pipe caps h = refl
 
@@ -304,17 +325,17 @@ object_spelling : (policy : PolicyNames) (o : WorldObject) → MakePolicy policy
 unfolding object_words
 object_spelling policy o h valid is =
     and_from _ _ (keyword_spelling o.body) (and_from _ _ (path_spelling o.path is.path) (and_from _ _ (mode_bare o.attr.mode) (and_from _ _ (number_spelling o.attr.owner is.owner)
-    (and_from _ _ (number_spelling o.attr.group is.group) (and_from _ _ (label_bare policy o.label h valid) (body_spelling o.body o.attr.caps is.body))))))
+    (and_from _ _ (number_spelling o.attr.group is.group) (and_from _ _ (label_bare policy o.label h valid) (body_spelling o.body (shown o.attr.caps) is.body))))))
 
-object_line : (w : PartialWorld) (o : WorldObject) → MakePolicy w.policy → is_valid w.policy o.label ≡ true → IsCanonicalObject o → (is_file (kind_of o.body) ≡ false → o.attr.caps ≡ no_flags)
-    → IsShort (object_words w.policy o) → parse_line (at.Tree w) (text_of (object_words w.policy o)) ≡ parse_object w o
+object_line : (w : PartialWorld) (o : WorldObject) → MakePolicy w.policy → is_valid w.policy o.label ≡ true → IsCanonicalObject o → (is_file (kind_of o.body) ≡ false → o.attr.caps ≡ no_file_caps)
+    → IsShort (object_words w.policy o) → parse_line (at.Tree w) (text_of (object_words w.policy o)) ≡ parse_object w o true
 unfolding object_words
 object_line w o h valid is plain short =
     line_is (at.Tree w) (body_keyword o.body) _ (keyword_begins o.body) (object_spelling w.policy o h valid is) short ∙ object_says w o.path o.label o.attr o.body h valid is plain
 
 -- the root may be given first
 root_adds : (format : Format) (policy : PolicyNames) (bound : CapSet) (o : WorldObject) → o.path.names ≡ [] → o.body ≡ body.Dir → o.label ≡ bottom
-    → parse_object (record { format = format; policy = policy; bound = bound; builder = record { objects = []; procs = [] } }) o ≡ GoesOn (tree_at format policy bound (o ∷ []) [])
+    → parse_object (record { format = format; policy = policy; bound = bound; builder = record { objects = []; procs = [] } }) o true ≡ GoesOn (tree_at format policy bound (o ∷ []) [])
 unfolding object_fault
 root_adds format policy bound o no_names dir lowest =
     ap (λ f. refuse_or f (GoesOn (tree_at format policy bound (o ∷ []) []))) (
@@ -334,7 +355,7 @@ below_root first rest o p (n ∷ ns) root e =
 
 placed_adds : (format : Format) (policy : PolicyNames) (bound : CapSet) (first : WorldObject) (rest : List WorldObject) (o : WorldObject) → first.path.names ≡ [] → IsPlaced (first ∷ rest) o
     → nat_le MAX_OBJECTS (objects_at o.label (first ∷ rest)) ≡ false
-    → parse_object (record { format = format; policy = policy; bound = bound; builder = record { objects = first ∷ rest; procs = [] } }) o ≡ GoesOn (tree_at format policy bound (first ∷ (rest ++ o ∷ [])) [])
+    → parse_object (record { format = format; policy = policy; bound = bound; builder = record { objects = first ∷ rest; procs = [] } }) o true ≡ GoesOn (tree_at format policy bound (first ∷ (rest ++ o ∷ [])) [])
 unfolding object_fault
 placed_adds format policy bound first rest o root p room =
     let below = below_root first rest o p o.path.names root refl in
@@ -346,7 +367,7 @@ placed_adds format policy bound first rest o root p room =
 -- the line of each object after the root adds it
 objects_add : (format : Format) (policy : PolicyNames) (bound : CapSet) (first : WorldObject) (rest os : List WorldObject) → MakePolicy policy → first.path.names ≡ [] → ArePlaced (first ∷ rest) os
     → AllByRecursion (λ (o : WorldObject). is_valid policy o.label ≡ true) os → AllByRecursion (λ (o : WorldObject). IsCanonicalObject o) os
-    → AllByRecursion (λ (o : WorldObject). is_file (kind_of o.body) ≡ false → o.attr.caps ≡ no_flags) os → AllByRecursion IsShort (map (object_words policy) os)
+    → AllByRecursion (λ (o : WorldObject). is_file (kind_of o.body) ≡ false → o.attr.caps ≡ no_file_caps) os → AllByRecursion IsShort (map (object_words policy) os)
     → ((l : Label) → objects_at l (first ∷ (rest ++ os)) ≤ MAX_OBJECTS) → EachAdds (object_words policy) (λ os. tree_at format policy bound os []) (first ∷ rest) os
 objects_add format policy bound first rest [] h root placed valid written plain short room = tt
 objects_add format policy bound first rest (o ∷ os) h root placed valid written plain short room =
@@ -360,7 +381,7 @@ objects_add format policy bound first rest (o ∷ os) h root placed valid writte
 tree_adds : (format : Format) (policy : PolicyNames) (bound : CapSet) (os : List WorldObject) (first : WorldObject) (others : List WorldObject) → MakePolicy policy → os ≡ first ∷ others
     → first.path.names ≡ [] → first.body ≡ body.Dir → first.label ≡ bottom → ArePlaced (first ∷ []) others
     → AllByRecursion (λ (o : WorldObject). is_valid policy o.label ≡ true) os → AllByRecursion (λ (o : WorldObject). IsCanonicalObject o) os
-    → AllByRecursion (λ (o : WorldObject). is_file (kind_of o.body) ≡ false → o.attr.caps ≡ no_flags) os → AllByRecursion IsShort (map (object_words policy) os)
+    → AllByRecursion (λ (o : WorldObject). is_file (kind_of o.body) ≡ false → o.attr.caps ≡ no_file_caps) os → AllByRecursion IsShort (map (object_words policy) os)
     → ((l : Label) → objects_at l os ≤ MAX_OBJECTS) → EachAdds (object_words policy) (λ os. tree_at format policy bound os []) [] os
 tree_adds format policy bound [] first others h e no_names dir lowest placed valid written plain short room = tt
 tree_adds format policy bound (o ∷ os) first others h e no_names dir lowest placed valid written plain short room =
@@ -389,7 +410,7 @@ ids_round_trip ids label is =
 
 process_says : (w : PartialWorld) (p : WorldProc) → MakePolicy w.policy → is_valid w.policy p.label ≡ true → IsCanonicalIds p.ids → is_within p.caps.e p.caps.p ≡ true
     → parse_words (at.Tree w) (process_words w.policy p) ≡ parse_process w p
-unfolding named parse_words process_words
+unfolding find_named parse_words process_words
 process_says w p h valid is within =
     form_some _ _ _ (proc_fields_round_trip w.policy p is)
     ∙ values_known (label_of w.policy (label_text w.policy p.label)) (proc_caps_of (caps_text p.caps)) p.label p.caps _ (label_round_trip w.policy p.label h valid) (proc_caps_known p.caps within)
@@ -423,7 +444,7 @@ processes_add format policy bound objects done (p ∷ ps) h some valid written w
 
 script_line : (format : Format) (policy : PolicyNames) (bound : CapSet) (objects : List WorldObject) (procs : List WorldProc) → (length objects == 0) ≡ false
     → parse_line (tree_at format policy bound objects procs) (text_of script_words) ≡ Begins (world_of (record { format = format; policy = policy; bound = bound; builder = record { objects = objects; procs = procs } }))
-unfolding named parse_words
+unfolding find_named parse_words
 script_line format policy bound objects procs some = line_is (tree_at format policy bound objects procs) (codes "script") [] refl refl (omega arith) ∙ cond-false _ _ _ some
 
 objects_spelling : (policy : PolicyNames) (os : List WorldObject) → MakePolicy policy → AllByRecursion (λ (o : WorldObject). is_valid policy o.label ≡ true) os
@@ -458,20 +479,26 @@ some_objects : (os : List WorldObject) (first : WorldObject) (others : List Worl
 some_objects [] first others e = absurd (cc)
 some_objects (o ∷ os) first others e = ne_eqb (length (o ∷ os)) 0 (λ z. omega arith)
 
--- the text of a world is read as that world
-pub written_round_trip : (w : WorldText) → CanBeRead w → read_text (written w) ≡ Accepted w (next_number w) ([] ∷ [])
-unfolding written
-written_round_trip w h =
-    ap (reading 1 at.Format) (pieces_round_trip (lines_of w) canonical)
-    ∙ head_read One w.policy.levels w.policy.cats w.policy.grades w.world.bound (map (object_words w.policy) w.world.objects ++ (map (process_words w.policy) w.world.procs ++ script_words ∷ [])) h.policy parts.0
-    ∙ steps_on (object_words w.policy) (λ os. tree_at One w.policy w.world.bound os []) first [] w.world.objects (map (process_words w.policy) w.world.procs ++ script_words ∷ [])
-    (tree_adds One w.policy w.world.bound w.world.objects h.is.world.first h.is.world.others h.policy h.is.world.objects_are h.is.world.no_names h.is.world.root_body h.is.world.root_label h.is.world.others_placed
+-- what begins with the text of a world is read as that world, and the rest is its script
+pub written_before : (w : WorldText) (rest : List ℕ) → CanBeRead w → read_text Two (text_of_world w ++ rest) ≡ Accepted w (next_number w) (pieces 10 rest)
+unfolding text_of_world
+written_before w rest h =
+    ap (read_lines 1 (at.Format Two)) (pieces_round_trip (lines_of w) rest canonical)
+    ∙ head_read Two w.policy.levels w.policy.cats w.policy.grades w.world.bound (map (object_words w.policy) w.world.objects ++ (map (process_words w.policy) w.world.procs ++ script_words ∷ [])) script some_rest h.policy parts.0
+    ∙ steps_on (object_words w.policy) (λ os. tree_at Two w.policy w.world.bound os []) first [] w.world.objects (map (process_words w.policy) w.world.procs ++ script_words ∷ []) script some_rest
+    (tree_adds Two w.policy w.world.bound w.world.objects h.is.world.first h.is.world.others h.policy h.is.world.objects_are h.is.world.no_names h.is.world.root_body h.is.world.root_label h.is.world.others_placed
     objects_valid written (objects_plain w.world.top w.world.objects h.is.world.objects) tails.0 h.is.world.room.objects)
-    ∙ steps_on (process_words w.policy) (tree_at One w.policy w.world.bound w.world.objects) (first + length w.world.objects) [] w.world.procs (script_words ∷ [])
-    (processes_add One w.policy w.world.bound w.world.objects [] w.world.procs h.policy some procs_valid owned (procs_within w.world.top w.world.procs h.is.world.procs) ends.0 h.is.world.room.procs)
-    ∙ step_last (first + length w.world.objects + length w.world.procs) (tree_at One w.policy w.world.bound w.world.objects w.world.procs) world script_words (script_line One w.policy w.world.bound w.world.objects w.world.procs some)
-    ∙ (λ i. Accepted (world_is i) (number i) ([] ∷ []))
+    ∙ steps_on (process_words w.policy) (tree_at Two w.policy w.world.bound w.world.objects) (first + length w.world.objects) [] w.world.procs (script_words ∷ []) script some_rest
+    (processes_add Two w.policy w.world.bound w.world.objects [] w.world.procs h.policy some procs_valid owned (procs_within w.world.top w.world.procs h.is.world.procs) ends.0 h.is.world.room.procs)
+    ∙ step_last (first + length w.world.objects + length w.world.procs) (tree_at Two w.policy w.world.bound w.world.objects w.world.procs) world script_words script some_rest (script_line Two w.policy w.world.bound w.world.objects w.world.procs some)
+    ∙ (λ i. Accepted (world_is i) (number i) script)
   where
+    script : List (List ℕ)
+    script = pieces 10 rest
+
+    some_rest : IsRest script
+    some_rest = let first = pieces_first 10 rest in record { first = first.0; others = first.1; is = first.2 }
+
     objects_valid : AllByRecursion (λ (o : WorldObject). is_valid w.policy o.label ≡ true) w.world.objects
     objects_valid = subst (λ (top : Label). AllByRecursion (λ (o : WorldObject). dominates top o.label ≡ true) w.world.objects) h.is.top (objects_below w.world.top w.world.objects h.is.world.objects)
 
@@ -488,7 +515,7 @@ written_round_trip w h =
     some = some_objects w.world.objects h.is.world.first h.is.world.others h.is.world.objects_are
 
     head : List (List LineWord)
-    head = head_words One w.policy w.world.bound
+    head = head_words Two w.policy w.world.bound
 
     -- the number of the line after the head
     first : ℕ
@@ -507,12 +534,12 @@ written_round_trip w h =
     canonical =
         let objects = map (object_words w.policy) w.world.objects in
         let procs = map (process_words w.policy) w.world.procs in
-        list_all-append (list_all has_spelling) (head_words One w.policy w.world.bound) (objects ++ (procs ++ script_words ∷ [])) ∙ and_from _ _ (head_spelling One w.policy.levels w.policy.cats w.policy.grades w.world.bound h.policy)
+        list_all-append (list_all has_spelling) (head_words Two w.policy w.world.bound) (objects ++ (procs ++ script_words ∷ [])) ∙ and_from _ _ (head_spelling Two w.policy.levels w.policy.cats w.policy.grades w.world.bound h.policy)
         (list_all-append (list_all has_spelling) objects (procs ++ script_words ∷ []) ∙ and_from _ _ (objects_spelling w.policy w.world.objects h.policy objects_valid written)
         (list_all-append (list_all has_spelling) procs (script_words ∷ []) ∙ and_from _ _ (processes_spelling w.policy w.world.procs h.policy procs_valid owned) refl))
 
     world : WorldText
-    world = world_of (record { format = One; policy = w.policy; bound = w.world.bound; builder = record { objects = w.world.objects; procs = w.world.procs } })
+    world = world_of (record { format = Two; policy = w.policy; bound = w.world.bound; builder = record { objects = w.world.objects; procs = w.world.procs } })
 
     world_is : world ≡ w
     world_is = ap (λ (top : Label). record { policy = w.policy; world = record { top = top; bound = w.world.bound; objects = w.world.objects; procs = w.world.procs } }) (sym h.is.top)
@@ -527,3 +554,7 @@ written_round_trip w h =
         let four = length-append procs (script_words ∷ []) in
         let five = length-append head (objects ++ (procs ++ script_words ∷ [])) in
         omega arith
+
+-- the text of a world is read as that world
+pub written_round_trip : (w : WorldText) → CanBeRead w → read_text Two (text_of_world w) ≡ Accepted w (next_number w) ([] ∷ [])
+written_round_trip w h = ap (read_text Two) (sym (append-nil (text_of_world w))) ∙ written_before w [] h

@@ -27,7 +27,7 @@ use Rattle.fs_path.specs.Name.{Name, is_name, is_name_byte, is_dots}
 use Rattle.fs_path.specs.Options.{keep_if, then}
 use Rattle.fs_path.specs.Path.{PathValue, HasForm, written_len}
 use Rattle.fs_path.specs.PathText.{is_slash, is_empty_or_dot, starts_badly, counts, names_of, component_fault, first_fault, components_of, path_fault, parse_path}
-use Rattle.fs_path.specs.Split.{Piece, placed}
+use Rattle.fs_path.specs.Split.{Piece, pieces_at}
 use Rattle.fs_path.specs.Words.{is_bare_text, has_spelling, with_quotes_if_needed}
 use Rattle.lab_lattice.specs.Label.{Label}
 use Rattle.fs_path.proofs.SplitLemmas.{any_before_end}
@@ -42,7 +42,7 @@ use Rattle.world_text.specs.Values.{caps_value, label_of, caps_of}
 use Rattle.world_text.specs.Head.{set_of}
 use Rattle.world_text.specs.TreeLines.{absolute_path}
 use Rattle.world_text.specs.Processes.{proc_caps, proc_caps_of}
-use Rattle.world_text.specs.Written.{quoted, path_text}
+use Rattle.world_text.specs.Written.{quoted_form, path_text}
 use Rattle.world_text.proofs.LineLemmas.{label_known}
 use Rattle.world_text.proofs.WrittenForms.{IsCanonicalPath}
 
@@ -93,21 +93,21 @@ split_round_trip n (m ∷ ms) h =
     slice_split_at is_slash n 47 (m ++ after_slashes ms) (no_slashes n (name_parts n parts.0).bytes) refl ∙ ap (λ (ns : List Name). n ∷ ns) (split_round_trip m ms parts.1)
 
 -- each name counts as a component
-kept_all : (at : ℕ) (ns : List Name) → list_all is_name ns ≡ true → filter counts (placed at ns) ≡ placed at ns
+kept_all : (at : ℕ) (ns : List Name) → list_all is_name ns ≡ true → filter counts (pieces_at at ns) ≡ pieces_at at ns
 kept_all at [] h = refl
 kept_all at (n ∷ ns) h =
     let parts = and_parts (is_name n) (list_all is_name ns) h in
     let counted : counts (record { at = at; bytes = n }) ≡ true = ap not (name_counts n parts.0) in
     cond-true _ _ _ counted ∙ ap (λ (cs : List Piece). record { at = at; bytes = n } ∷ cs) (kept_all (at + length n + 1) ns parts.1)
 
-names_placed : (at : ℕ) (ns : List Name) → names_of (placed at ns) ≡ ns
+names_placed : (at : ℕ) (ns : List Name) → names_of (pieces_at at ns) ≡ ns
 names_placed at [] = refl
 names_placed at (n ∷ ns) = ap (λ (ms : List Name). n ∷ ms) (names_placed (at + length n + 1) ns)
 
-components_round_trip : (names : List Name) → list_all is_name names ≡ true → components_of (path_text names) ≡ placed 1 names
+components_round_trip : (names : List Name) → list_all is_name names ≡ true → components_of (path_text names) ≡ pieces_at 1 names
 unfolding components_of
 components_round_trip [] h = refl
-components_round_trip (n ∷ ns) h = ap (λ (ps : List (List ℕ)). filter counts (placed 1 ps)) (split_round_trip n ns h) ∙ kept_all 1 (n ∷ ns) h
+components_round_trip (n ∷ ns) h = ap (λ (ps : List (List ℕ)). filter counts (pieces_at 1 ps)) (split_round_trip n ns h) ∙ kept_all 1 (n ∷ ns) h
 
 no_zero : (a : ℕ) → is_name_byte a ≡ true → (0 == a && true) ≡ false
 no_zero a h = grind (arith, nat_tests)
@@ -134,11 +134,11 @@ name_fine count at n h few =
     ∙ ap (option_map (λ i. error.BadByte (at + i))) place
 
 -- names that are not too many have no fault as components
-names_fine : (count at : ℕ) (ns : List Name) → list_all is_name ns ≡ true → count + length ns ≤ 32 → first_fault count (placed at ns) ≡ None
+names_fine : (count at : ℕ) (ns : List Name) → list_all is_name ns ≡ true → count + length ns ≤ 32 → first_fault count (pieces_at at ns) ≡ None
 names_fine count at [] h few = refl
 names_fine count at (n ∷ ns) h few =
     let parts = and_parts (is_name n) (list_all is_name ns) h in
-    ap (λ (o : Option PathError). option_or o (first_fault (count + 1) (placed (at + length n + 1) ns))) (name_fine count at n parts.0 (omega arith)) ∙ names_fine (count + 1) (at + length n + 1) ns parts.1 (omega arith)
+    ap (λ (o : Option PathError). option_or o (first_fault (count + 1) (pieces_at (at + length n + 1) ns))) (name_fine count at n parts.0 (omega arith)) ∙ names_fine (count + 1) (at + length n + 1) ns parts.1 (omega arith)
 
 text_length : (ns : List Name) → length (after_slashes ns) ≡ written_len ns
 text_length [] = refl
@@ -214,7 +214,7 @@ pub none_known : (caps : CapState) → same_bytes (caps_text caps) (codes "=") �
 none_known caps e = caps_text_exact caps no_flags ((pointwise_decides unsigned_Decides (caps_text caps) (codes "=")).0 e ∙ sym no_flags_text)
 
 -- the text of a state can be written between quotes
-pub caps_spelling : (caps : CapState) → has_spelling (quoted (caps_text caps)) ≡ true
+pub caps_spelling : (caps : CapState) → has_spelling (quoted_form (caps_text caps)) ≡ true
 caps_spelling caps = caps_text_bytes caps
 
 -- the text of a bound denotes that bound

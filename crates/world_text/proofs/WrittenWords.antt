@@ -83,17 +83,18 @@ first_piece (b ∷ bs) rest high =
     let parts = and_parts (is_high b) (list_all is_high bs) high in
     cond-false (b == 10) ([] ∷ pieces 10 (bs ++ 10 ∷ rest)) (onto_first b (pieces 10 (bs ++ 10 ∷ rest))) (no_feed b parts.0) ∙ ap (onto_first b) (first_piece bs rest parts.1)
 
--- lines as they are written, and the piece after the last line feed
-abbrev pub written_pieces : List (List LineWord) → List (List ℕ)
-written_pieces lines = map (λ words. line_text (map spelling words)) lines ++ [] ∷ []
+-- lines as they are written, and the pieces after them
+abbrev pub written_pieces : List (List LineWord) → List (List ℕ) → List (List ℕ)
+written_pieces lines rest = map (λ words. line_text (map spelling words)) lines ++ rest
 
-pub pieces_round_trip : (lines : List (List LineWord)) → list_all (list_all has_spelling) lines ≡ true → pieces 10 (flat_map line_of lines) ≡ written_pieces lines
+pub pieces_round_trip : (lines : List (List LineWord)) (rest : List ℕ) → list_all (list_all has_spelling) lines ≡ true → pieces 10 (flat_map line_of lines ++ rest) ≡ written_pieces lines (pieces 10 rest)
 unfolding line_of
-pieces_round_trip [] can = refl
-pieces_round_trip (words ∷ lines) can =
+pieces_round_trip [] rest can = refl
+pieces_round_trip (words ∷ lines) rest can =
     let parts = and_parts (list_all has_spelling words) (list_all (list_all has_spelling) lines) can in
-    ap (pieces 10) (append_assoc (line_text (map spelling words)) (10 ∷ []) (flat_map line_of lines)) ∙ first_piece (line_text (map spelling words)) (flat_map line_of lines) (line_high words parts.0)
-    ∙ ap (λ (ls : List (List ℕ)). line_text (map spelling words) ∷ ls) (pieces_round_trip lines parts.1)
+    let line = line_text (map spelling words) in
+    ap (pieces 10) (append_assoc (line ++ 10 ∷ []) (flat_map line_of lines) rest ∙ append_assoc line (10 ∷ []) (flat_map line_of lines ++ rest)) ∙ first_piece line (flat_map line_of lines ++ rest) (line_high words parts.0)
+    ∙ ap (λ (ls : List (List ℕ)). line ∷ ls) (pieces_round_trip lines rest parts.1)
 
 -- ---- lines
 

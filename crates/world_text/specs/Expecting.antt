@@ -9,7 +9,7 @@ use Rattle.lab_text.specs.Policy.{PolicyNames, top_of}
 use Rattle.fs_path.specs.declared.words.TheConstants.{MAX_LINE}
 use Rattle.kern_model.specs.declared.objects.Body.TheVariants as body
 use Rattle.line_text.specs.declared.fault.LineFault.{LineFault}
-use Rattle.line_text.specs.declared.fault.LineFault.TheVariants.{Syntax, UnknownName, Repeated, NoParent, RootLabel, LabelOrder, TooMany}
+use Rattle.line_text.specs.declared.fault.LineFault.TheVariants.{OldFormat, Syntax, UnknownName, Repeated, NoParent, RootLabel, LabelOrder, TooMany, MixedCaps}
 use Rattle.world_text.specs.declared.expecting.Expecting.{Expecting}
 use Rattle.world_text.specs.declared.expecting.Expecting.TheVariants as at
 use Rattle.world_text.specs.declared.expecting.PartialWorld.{PartialWorld}
@@ -63,7 +63,7 @@ parse_tree_line w (first ∷ ws) = with_form (keyword_of first) (λ keyword. par
 
 -- what the words of a line say
 unfoldable pub parse_words : Expecting → List LineWord → Parsed
-parse_words at.Format ws = with_form (after_keyword (codes "world") ws) parse_format
+parse_words (at.Format due) ws = with_form (after_keyword (codes "world") ws) (parse_format due)
 parse_words (at.Names format list names) ws = with_form (after_keyword (list_keyword list) ws) (parse_names format list names)
 parse_words (at.Grades format policy) ws = parse_grades format policy (after_keyword (list_keyword Grades) ws) ws
 parse_words (at.Bound format policy) ws = parse_bound_line format policy ws
@@ -78,6 +78,7 @@ parse_line expecting line =
 
 -- whether a line of a world can have a fault
 abbrev pub is_of_world : LineFault → Bool
+is_of_world OldFormat = true
 is_of_world Syntax = true
 is_of_world UnknownName = true
 is_of_world Repeated = true
@@ -85,6 +86,7 @@ is_of_world NoParent = true
 is_of_world RootLabel = true
 is_of_world LabelOrder = true
 is_of_world TooMany = true
+is_of_world MixedCaps = true
 is_of_world _ = false
 
 -- a line that is refused has a fault that a line of a world can have

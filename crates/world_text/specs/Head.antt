@@ -9,7 +9,7 @@ use Rattle.lab_text.specs.Policy.{PolicyNames, with_names, no_names, names_fault
 use Rattle.lab_text.specs.declared.lists.NameList.{NameList}
 use Rattle.lab_text.specs.declared.lists.NameList.TheVariants.{Levels, Grades}
 use Rattle.line_text.specs.declared.fault.LineFault.{LineFault}
-use Rattle.line_text.specs.declared.fault.LineFault.TheVariants.{Syntax, Repeated, TooMany}
+use Rattle.line_text.specs.declared.fault.LineFault.TheVariants.{OldFormat, Syntax, Repeated, TooMany}
 use Rattle.world_text.specs.declared.expecting.Expecting.{Expecting}
 use Rattle.world_text.specs.declared.expecting.Expecting.TheVariants as at
 use Rattle.world_text.specs.declared.values.WordValue.{WordValue}
@@ -18,13 +18,21 @@ use Rattle.world_text.specs.declared.expecting.Parsed.TheVariants.{Refuses, Goes
 use Rattle.lab_text.specs.declared.policy.PolicyError.{PolicyError}
 use Rattle.lab_text.specs.declared.policy.PolicyError.TheVariants as error
 use Rattle.world_text.specs.declared.format.Format.{Format}
+use Rattle.world_text.specs.declared.format.Format.TheVariants.{One, Two}
 use Rattle.world_text.specs.Formats.{format_named}
 use Rattle.world_text.specs.Values.{unless, with_form, with_value, caps_value}
 
--- `world FORMAT`
-abbrev pub parse_format : Names → Parsed
-parse_format (w ∷ []) = with_form (format_named w) (λ format. GoesOn (at.Names format Levels no_names))
-parse_format _ = Refuses Syntax
+-- a line that names a format, by the one that is due
+abbrev pub after_format : (due format : Format) → Parsed
+after_format One One = GoesOn (at.Names One Levels no_names)
+after_format One Two = Refuses Syntax
+after_format Two One = Refuses OldFormat
+after_format Two Two = GoesOn (at.Names Two Levels no_names)
+
+-- `world FORMAT`, where a format is due
+abbrev pub parse_format : Format → Names → Parsed
+parse_format due (w ∷ []) = with_form (format_named w) (after_format due)
+parse_format due _ = Refuses Syntax
 
 -- the fault of a line whose names make no policy
 abbrev pub fault_for : PolicyError → LineFault

@@ -1,7 +1,7 @@
 -- The keywords of the lines after the head.
 use Rattle.std.specs.Prelude.{◌≡◌, ◌↔◌, ℕ, cond, List, [], ◌∷◌, Option, None, Some, codes}
 use Rattle.fs_path.specs.declared.words.LineWord.{LineWord}
-use Rattle.kern_model.specs.Named.{named}
+use Rattle.kern_model.specs.Named.{find_named}
 use Rattle.world_text.specs.declared.keyword.Keyword.{Keyword}
 use Rattle.world_text.specs.declared.keyword.Keyword.TheVariants.{Dir, File, Fifo, Proc, Script}
 use Rattle.world_text.specs.Written.{bare}
@@ -20,7 +20,7 @@ all_keywords = Dir ∷ File ∷ Fifo ∷ Proc ∷ Script ∷ []
 
 -- the keyword with a word
 abbrev pub keyword_named : List ℕ → Option Keyword
-keyword_named = named keyword_word all_keywords
+keyword_named = find_named keyword_word all_keywords
 
 -- the keyword that a word is; a word between quotes is none
 abbrev pub keyword_of : LineWord → Option Keyword

@@ -5,6 +5,7 @@ use Rattle.line_text.specs.declared.fault.LineFault.{LineFault}
 use Rattle.line_text.specs.declared.fault.LineFault.TheVariants as fault
 use Rattle.world_text.specs.declared.fault.WorldError.{WorldError}
 use Rattle.world_text.specs.declared.fault.WorldError.TheVariants as error
+use Rattle.world_text.specs.declared.format.Format.{Format}
 use Rattle.world_text.specs.declared.world.WorldText.{WorldText}
 use Rattle.world_text.specs.declared.expecting.Expecting.{Expecting}
 use Rattle.world_text.specs.declared.expecting.Expecting.TheVariants as at
@@ -12,7 +13,7 @@ use Rattle.world_text.specs.declared.expecting.Parsed.{Parsed}
 use Rattle.world_text.specs.declared.expecting.Parsed.TheVariants.{Refuses, GoesOn, Begins}
 use Rattle.world_text.specs.CanBeRead.{HasShortLines}
 use Rattle.world_text.specs.Expecting.{parse_line}
-use Rattle.world_text.specs.Written.{next_number, written}
+use Rattle.world_text.specs.Written.{next_number, text_of_world}
 
 -- how the reading of a world ends
 pub data Reading : Type 0 where
@@ -29,14 +30,14 @@ after (GoesOn expecting) n rest more = more expecting
 after (Begins world) n rest more = Accepted world (n + 1) rest
 
 -- the pieces of a text between line feeds, from line n on; the last has no line feed after it
-unfoldable pub reading : ℕ → Expecting → List (List ℕ) → Reading
-reading n expecting [] = Ended n []
-reading n expecting (last ∷ []) = Ended n last
-reading n expecting (line ∷ next ∷ ls) = after (parse_line expecting line) n (next ∷ ls) (λ expecting. reading (n + 1) expecting (next ∷ ls))
+unfoldable pub read_lines : ℕ → Expecting → List (List ℕ) → Reading
+read_lines n expecting [] = Ended n []
+read_lines n expecting (last ∷ []) = Ended n last
+read_lines n expecting (line ∷ next ∷ ls) = after (parse_line expecting line) n (next ∷ ls) (λ expecting. read_lines (n + 1) expecting (next ∷ ls))
 
--- what a text says
-abbrev pub read_text : List ℕ → Reading
-read_text text = reading 1 at.Format (pieces 10 text)
+-- what a text says where a format is due
+abbrev pub read_text : Format → List ℕ → Reading
+read_text due text = read_lines 1 (at.Format due) (pieces 10 text)
 
 -- what the text of a world says, with no script after it
 abbrev pub reading_of : WorldText → Reading
@@ -55,6 +56,8 @@ error_at n fault.NoParent = error.NoParent n
 error_at n fault.RootLabel = error.RootLabel n
 error_at n fault.LabelOrder = error.LabelOrder n
 error_at n fault.TooMany = error.TooMany n
+error_at n fault.MixedCaps = error.Mixed n
+error_at n fault.OldFormat = error.OldFormat n
 error_at n _ = error.Syntax n
 
 -- why a reading gives no world; a text that ends too early is refused at the line in which it ends, which is the next one after
@@ -71,7 +74,7 @@ IsNotRead r e = error_of r ≡ Some e
 
 -- a text is the written form of the world that was read
 abbrev pub IsWorldWritten : Reading → List ℕ → Type 0
-IsWorldWritten (Accepted world n script) text = text ≡ written world
+IsWorldWritten (Accepted world n script) text = text ≡ text_of_world world
 IsWorldWritten _ text = ⊥
 
 -- a text is read as a world, and the written form of this world is read as the same where its lines are short

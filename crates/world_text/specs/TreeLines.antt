@@ -1,6 +1,8 @@
 -- What the lines of the tree say: directories, files and FIFOs.
-use Rattle.std.specs.Prelude.{ℕ, List, [], ◌∷◌, ◌++◌, Option, None, Some}
+use Rattle.std.specs.Prelude.{ℕ, Bool, not, List, [], ◌∷◌, ◌++◌, Option, None, Some}
 use Rattle.cap_bits.specs.declared.state.CapState.{CapState}
+use Rattle.cap_bits.specs.declared.file_caps.FileCaps.{FileCaps}
+use Rattle.cap_bits.specs.FileCaps.{caps_by, is_uniform}
 use Rattle.cap_bits.specs.State.{no_flags}
 use Rattle.fs_path.specs.Options.{keep_if, then}
 use Rattle.fs_path.specs.Path.{PathValue}
@@ -12,7 +14,7 @@ use Rattle.kern_model.specs.declared.objects.Body.{Body}
 use Rattle.kern_model.specs.declared.objects.Body.TheVariants as body
 use Rattle.kern_model.specs.declared.world.WorldObject.{WorldObject}
 use Rattle.line_text.specs.Reading.{path_of}
-use Rattle.line_text.specs.declared.fault.LineFault.TheVariants.{Syntax}
+use Rattle.line_text.specs.declared.fault.LineFault.TheVariants.{Syntax, MixedCaps}
 use Rattle.world_text.specs.declared.expecting.Expecting.TheVariants as at
 use Rattle.world_text.specs.declared.tree.ObjectFields.{ObjectFields}
 use Rattle.world_text.specs.declared.expecting.PartialWorld.{PartialWorld}
@@ -21,7 +23,7 @@ use Rattle.world_text.specs.declared.values.WordValue.TheVariants as value
 use Rattle.world_text.specs.declared.expecting.Parsed.{Parsed}
 use Rattle.world_text.specs.declared.expecting.Parsed.TheVariants.{Refuses, GoesOn}
 use Rattle.world_text.specs.Placing.{object_fault}
-use Rattle.world_text.specs.Values.{refuse_or, with_form, with_value, caps_of, label_of, both}
+use Rattle.world_text.specs.Values.{unless, refuse_or, with_form, with_value, caps_of, label_of, both}
 
 -- an absolute path
 abbrev pub absolute_path : List ℕ → Option PathValue
@@ -38,17 +40,18 @@ abbrev pub object_fields_in : PolicyNames → Names → Option ObjectFields
 object_fields_in policy (path ∷ mode ∷ uid ∷ gid ∷ label ∷ more) = object_fields_of policy path mode uid gid label
 object_fields_in policy _ = None
 
--- an object comes after those before it, if it can
-abbrev pub parse_object : PartialWorld → WorldObject → Parsed
-parse_object w o = refuse_or (object_fault w.builder o) (GoesOn (at.Tree (record w { builder = record w.builder { objects = w.builder.objects ++ o ∷ [] } })))
+-- an object comes after those before it, if it can; last, a file has to be able to have the state that its line gives
+abbrev pub parse_object : PartialWorld → WorldObject → Bool → Parsed
+parse_object w o uniform =
+    refuse_or (object_fault w.builder o) (unless (not uniform) MixedCaps (GoesOn (at.Tree (record w { builder = record w.builder { objects = w.builder.objects ++ o ∷ [] } }))))
 
 -- the object of a tree line
-abbrev pub object_of : ObjectFields → Label → CapState → Body → WorldObject
+abbrev pub object_of : ObjectFields → Label → FileCaps → Body → WorldObject
 object_of f label caps body = record { path = f.path; label = label; attr = record { owner = f.owner; group = f.group; mode = f.mode; caps = caps }; body = body }
 
--- a tree line: its form, then its names, and then where it stands
+-- a tree line: its form, then its names, then where it stands, and last whether its capabilities are uniform
 abbrev pub parse_tree : PartialWorld → Option ObjectFields → WordValue CapState → Body → Parsed
-parse_tree w form caps body = with_form form (λ f. with_value (both f.label caps) (λ x. parse_object w (object_of f x.0 x.1 body)))
+parse_tree w form caps body = with_form form (λ f. with_value (both f.label caps) (λ x. parse_object w (object_of f x.0 (caps_by x.1) body) (is_uniform x.1)))
 
 -- `dir PATH MODE UID GID LABEL` or `fifo PATH MODE UID GID LABEL`
 abbrev pub parse_plain : PartialWorld → Body → Names → Parsed

@@ -4,6 +4,7 @@ use Rattle.std.specs.Fmt.{decimal}
 use Rattle.std.specs.List.{flat_map}
 use Rattle.cap_bits.specs.declared.state.CapState.{CapState}
 use Rattle.cap_bits.specs.CapSet.{CapSet}
+use Rattle.cap_bits.specs.FileCaps.{shown}
 use Rattle.cap_clause.specs.Written.{caps_text, set_text}
 use Rattle.fs_path.specs.declared.words.LineWord.{LineWord}
 use Rattle.fs_path.specs.Name.{Name}
@@ -18,7 +19,7 @@ use Rattle.kern_model.specs.declared.objects.Body.TheVariants as body
 use Rattle.kern_model.specs.declared.world.WorldObject.{WorldObject}
 use Rattle.kern_model.specs.declared.world.WorldProc.{WorldProc}
 use Rattle.world_text.specs.declared.format.Format.{Format}
-use Rattle.world_text.specs.declared.format.Format.TheVariants.{One}
+use Rattle.world_text.specs.declared.format.Format.TheVariants.{Two}
 use Rattle.world_text.specs.declared.world.WorldText.{WorldText}
 use Rattle.world_text.specs.Formats.{format_word}
 
@@ -29,8 +30,8 @@ abbrev pub bare : List ℕ → LineWord
 bare bytes = record { quoted = false; bytes = bytes }
 
 -- a word between quotes
-abbrev pub quoted : List ℕ → LineWord
-quoted bytes = record { quoted = true; bytes = bytes }
+abbrev pub quoted_form : List ℕ → LineWord
+quoted_form bytes = record { quoted = true; bytes = bytes }
 
 -- the text of a path: `/`, or each name after a `/`
 abbrev pub path_text : List Name → List ℕ
@@ -61,23 +62,23 @@ body_keyword body.Pipe = codes "pipe"
 
 -- capabilities after a file's content, where their text is not `=`
 abbrev pub caps_words : CapState → List LineWord
-caps_words caps = cond (same_bytes (caps_text caps) (codes "=")) [] (quoted (caps_text caps) ∷ [])
+caps_words caps = cond (same_bytes (caps_text caps) (codes "=")) [] (quoted_form (caps_text caps) ∷ [])
 
 -- the content of a file, and its capabilities
 abbrev pub body_words : Body → CapState → List LineWord
-body_words (body.File bytes) caps = quoted bytes ∷ caps_words caps
+body_words (body.File bytes) caps = quoted_form bytes ∷ caps_words caps
 body_words _ caps = []
 
 -- a tree line: the keyword, the path, the mode, the owner, the group, the label, and what a file holds
 unfoldable pub object_words : PolicyNames → WorldObject → List LineWord
 object_words policy o =
     bare (body_keyword o.body) ∷ with_quotes_if_needed (path_text o.path.names) ∷ bare (mode_text o.attr.mode) ∷ bare (decimal o.attr.owner) ∷ bare (decimal o.attr.group)
-    ∷ bare (label_text policy o.label) ∷ body_words o.body o.attr.caps
+    ∷ bare (label_text policy o.label) ∷ body_words o.body (shown o.attr.caps)
 
 -- a process line: the label, the user, the group, the supplementary groups and the capabilities
 unfoldable pub process_words : PolicyNames → WorldProc → List LineWord
 process_words policy p =
-    bare (codes "proc") ∷ bare (label_text policy p.label) ∷ bare (decimal p.ids.euid) ∷ bare (decimal p.ids.egid) ∷ bare (groups_text p.ids.groups) ∷ quoted (caps_text p.caps) ∷ []
+    bare (codes "proc") ∷ bare (label_text policy p.label) ∷ bare (decimal p.ids.euid) ∷ bare (decimal p.ids.egid) ∷ bare (groups_text p.ids.groups) ∷ quoted_form (caps_text p.caps) ∷ []
 
 -- the lines of objects
 abbrev pub objects_text : PolicyNames → List WorldObject → List ℕ
@@ -94,12 +95,12 @@ script_words = names_words (codes "script") []
 -- the lines of a world: its head, objects and processes in their order, and the beginning of the script
 abbrev pub lines_of : WorldText → List (List LineWord)
 lines_of w =
-    head_words One w.policy w.world.bound ++ (map (object_words w.policy) w.world.objects ++ (map (process_words w.policy) w.world.procs ++ script_words ∷ []))
+    head_words Two w.policy w.world.bound ++ (map (object_words w.policy) w.world.objects ++ (map (process_words w.policy) w.world.procs ++ script_words ∷ []))
 
 -- the number of the line after these
 abbrev pub next_number : WorldText → ℕ
 next_number w = length (lines_of w) + 1
 
 -- the text of a world
-unfoldable pub written : WorldText → List ℕ
-written w = flat_map line_of (lines_of w)
+unfoldable pub text_of_world : WorldText → List ℕ
+text_of_world w = flat_map line_of (lines_of w)

@@ -25,8 +25,8 @@ use std::alloc::Global;
 
 /// Which line of a world is due, and what the lines before it gave. Blank lines and comments may stand before each.
 pub enum Expecting {
-    /// The format, with which the reading of a world begins.
-    Format,
+    /// The line of this format, with which the reading of a world begins.
+    Format(Format),
     /// The names of a list, after these of the lists before it, in a world of this format.
     Names(Format, NameList, PolicyNames),
     /// The names of the grades, or the bound of a world that has none, after the names of this policy.
@@ -41,9 +41,9 @@ pub enum Expecting {
 impl Drop for Expecting {
     fn drop(self) {
         match self {
-            Expecting::Format => {}
-            Expecting::Names(_, _, _) | Expecting::Grades(_, _) => {}
-            Expecting::Bound(_, _) | Expecting::Tree(_) => {}
+            Expecting::Format(_) | Expecting::Names(_, _, _) => {}
+            Expecting::Grades(_, _) | Expecting::Bound(_, _) => {}
+            Expecting::Tree(_) => {}
         }
     }
 }
@@ -79,12 +79,18 @@ pub enum Parsed {
 }
 
 impl PartialWorld {
-    // Puts an object after those before it.
-    pub(crate) fn parse_object(self, alloc: Global, object: WorldObject) -> Result<Parsed, NoMemory>
-        ensures { IfOk result (λ parsed. parsed ≡ parse_object self object) }
+    // Puts an object after those before it. Whether its capabilities are uniform is judged last.
+    pub(crate) fn parse_object(
+        self,
+        alloc: Global,
+        object: WorldObject,
+        uniform: bool,
+    ) -> Result<Parsed, NoMemory>
+        ensures { IfOk result (λ parsed. parsed ≡ parse_object self object uniform) }
     {
         match self.builder.object_fault(alloc, &object)? {
             Some(fault) => Ok(Parsed::Refuses(fault)),
+            None if !uniform => Ok(Parsed::Refuses(LineFault::MixedCaps)),
             None => {
                 let PartialWorld {
                     format,
@@ -229,8 +235,8 @@ impl Expecting {
         ensures { IfOk result (λ parsed. parsed ≡ parse_words self words.now) }
     {
         match self {
-            Expecting::Format => match after_keyword(b"world", words) {
-                Some(words) => Ok(parse_format(alloc, words)),
+            Expecting::Format(due) => match after_keyword(b"world", words) {
+                Some(words) => Ok(parse_format(alloc, due, words)),
                 None => Ok(syntax()),
             },
             Expecting::Names(format, list, names) => match after_keyword(list.keyword(), words) {

@@ -32,6 +32,12 @@ pub enum WorldError {
     /// There are more than 16 levels, 64 categories, 16 grades, 65,535 objects of a label or 4,095 processes of a label.
     #[error("line {0} has or gives more than there may be")]
     TooMany(u64),
+    /// A file has some capabilities effective, but not all that are permitted or inheritable.
+    #[error("line {0} gives a file some capabilities effective and others not")]
+    Mixed(u64),
+    /// The line is that of the old format, `world 1`, where that of today is due.
+    #[error("line {0} has the old format of worlds, which `upgrade` reads")]
+    OldFormat(u64),
     /// Memory ran out.
     #[error("memory ran out")]
     NoMemory(NoMemory),
@@ -60,6 +66,8 @@ impl WorldError {
             LineFault::RootLabel => WorldError::RootLabel(number),
             LineFault::LabelOrder => WorldError::LabelOrder(number),
             LineFault::TooMany => WorldError::TooMany(number),
+            LineFault::MixedCaps => WorldError::Mixed(number),
+            LineFault::OldFormat => WorldError::OldFormat(number),
             _ => WorldError::Syntax(number),
         }
     }

@@ -2,7 +2,7 @@
 ghost use Rattle.std.specs.Prelude.{◌≡◌, IfOk};
 ghost use Rattle.lab_text.specs.Lists.{next_list};
 ghost use Rattle.lab_text.specs.Policy.{MakePolicy};
-ghost use Rattle.world_text.specs.Head.{fault_for, due_after, parse_format, parse_names, parse_bound};
+ghost use Rattle.world_text.specs.Head.{after_format, fault_for, due_after, parse_format, parse_names, parse_bound};
 ghost use Rattle.world_text.specs.Values.{bytes_in};
 
 use crate::NoMemory;
@@ -16,18 +16,29 @@ use lab_text::{NameList, Policy, PolicyError, PolicyNames, Word, are_label_names
 use line_text::LineFault;
 use std::alloc::Global;
 
-/// `world FORMAT`.
-pub fn parse_format(alloc: Global, words: &[LineWord<'_>]) -> Parsed
-    ensures { result ≡ parse_format (bytes_in words.now) }
+// What comes of a line that names this format, where `due` is due.
+fn after_format(alloc: Global, due: Format, format: Format) -> Parsed
+    ensures { result ≡ after_format due format }
+{
+    match (due, format) {
+        (Format::One, Format::Two) => syntax(),
+        (Format::Two, Format::One) => Parsed::Refuses(LineFault::OldFormat),
+        (Format::One, Format::One) | (Format::Two, Format::Two) => {
+            let names = PolicyNames::empty(alloc);
+            Parsed::GoesOn(Expecting::Names(format, NameList::Levels, names))
+        }
+    }
+}
+
+/// `world FORMAT`, where this format is due.
+pub fn parse_format(alloc: Global, due: Format, words: &[LineWord<'_>]) -> Parsed
+    ensures { result ≡ parse_format due (bytes_in words.now) }
 {
     let [word] = words else {
         return syntax();
     };
     match Format::from_word(word.bytes.items()) {
-        Some(format) => {
-            let names = PolicyNames::empty(alloc);
-            Parsed::GoesOn(Expecting::Names(format, NameList::Levels, names))
-        }
+        Some(format) => after_format(alloc, due, format),
         None => syntax(),
     }
 }

@@ -23,7 +23,7 @@ const KEYWORDS: [Keyword; 5] = [
 ];
 
 // The keyword with these bytes.
-#[tactic(auto, unfolding(kern_model::specs::Named::named))]
+#[tactic(auto, unfolding(kern_model::specs::Named::find_named))]
 fn keyword_named(bytes: &[u8]) -> Option<Keyword>
     ensures { result ≡ keyword_named bytes.now }
 {

@@ -18,5 +18,6 @@ mod writing;
 pub use canonical::canonical_text;
 pub use expecting::{Expecting, Parsed, parse_line};
 pub use fault::WorldError;
+pub use format::Format;
 pub use std::alloc::AllocError as NoMemory;
 pub use world::WorldText;

@@ -1,13 +1,13 @@
 // What the lines of the tree say: directories, files and FIFOs.
 ghost use Rattle.std.specs.Prelude.{◌≡◌, IfOk};
 ghost use Rattle.kern_model.specs.declared.objects.Body.TheVariants as body;
-ghost use Rattle.world_text.specs.TreeLines.{absolute_path, object_fields_in, parse_tree, parse_plain, parse_file};
+ghost use Rattle.world_text.specs.TreeLines.{absolute_path, object_fields_in, object_of, parse_tree, parse_plain, parse_file};
 ghost use Rattle.world_text.specs.Values.{bytes_in};
 
 use crate::NoMemory;
 use crate::expecting::{Parsed, PartialWorld};
 use crate::values::{WordValue, both, caps_of, label_of, syntax, unknown_name};
-use cap_bits::CapState;
+use cap_bits::{CapState, FileCaps};
 use fs_path::{LineWord, Path, mode_of, number_of};
 use kern_model::{Attr, Body, Gid, Mode, Uid, WorldObject};
 use lab_lattice::Label;
@@ -69,6 +69,31 @@ fn object_fields_in(
     }))
 }
 
+// The object of a tree line.
+fn object_of(fields: ObjectFields, label: Label, caps: FileCaps, body: Body) -> WorldObject
+    ensures { result ≡ object_of fields label caps body }
+{
+    let ObjectFields {
+        path,
+        mode,
+        owner,
+        group,
+        label: _,
+    } = fields;
+    let attr = Attr {
+        owner,
+        group,
+        mode,
+        caps,
+    };
+    WorldObject {
+        path,
+        label,
+        attr,
+        body,
+    }
+}
+
 // A tree line whose first five words are these, with these capabilities and this body.
 fn parse_tree(
     alloc: Global,
@@ -82,30 +107,14 @@ fn parse_tree(
     let Some(fields) = object_fields_in(alloc, &so_far.policy, words)? else {
         return Ok(syntax());
     };
-    let ObjectFields {
-        path,
-        mode,
-        owner,
-        group,
-        label,
-    } = fields;
-    match both(label, caps) {
+    match both(fields.label, caps) {
         WordValue::Malformed => Ok(syntax()),
         WordValue::UnknownName => Ok(unknown_name()),
-        WordValue::Known((label, caps)) => {
-            let attr = Attr {
-                owner,
-                group,
-                mode,
-                caps,
-            };
-            let object = WorldObject {
-                path,
-                label,
-                attr,
-                body,
-            };
-            so_far.parse_object(alloc, object)
+        WordValue::Known((label, state)) => {
+            // A line whose capabilities are not uniform is refused, so those of its object are not looked at.
+            let caps = FileCaps::from_state(&state);
+            let object = object_of(fields, label, caps.unwrap_or(FileCaps::none()), body);
+            so_far.parse_object(alloc, object, caps.is_some())
         }
     }
 }

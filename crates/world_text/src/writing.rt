@@ -4,9 +4,10 @@ ghost use Rattle.std.specs.List.{AllByRecursion, flat_map};
 ghost use Rattle.fs_path.specs.Words.{with_quotes_if_needed, spelling};
 ghost use Rattle.line_text.specs.Ranges.{are_bytes};
 ghost use Rattle.line_text.specs.Reply.{with_words};
+ghost use Rattle.world_text.specs.declared.format.Format.TheVariants.{Two};
 ghost use Rattle.world_text.specs.CanBeRead.{HasBytes, IsWrittenObject, IsWrittenIds, IsWorldText, HasShortLines};
 ghost use Rattle.world_text.specs.Reading.{reading_of, read_text};
-ghost use Rattle.world_text.specs.Written.{path_text, line_of, names_words, head_words, body_keyword, caps_words, body_words, object_words, objects_text, process_words, processes_text, written};
+ghost use Rattle.world_text.specs.Written.{path_text, line_of, names_words, head_words, body_keyword, caps_words, body_words, object_words, objects_text, process_words, processes_text, text_of_world};
 
 use crate::format::Format;
 use crate::{NoMemory, WorldText};
@@ -105,7 +106,7 @@ fn put_object(
     line.number(object.attr.owner)?;
     line.number(object.attr.group)?;
     line.label(policy, &object.label)?;
-    put_body(alloc, line, &object.body, &object.attr.caps)?;
+    put_body(alloc, line, &object.body, &object.attr.caps.shown())?;
     line.line_feed()
 }
 
@@ -189,11 +190,11 @@ fn put_head(
 
 impl WorldText {
     /// The written form of a world, up to the line `script`.
-    #[tactic(auto, unfolding(crate::specs::Written::line_of, crate::specs::Written::written))]
+    #[tactic(auto, unfolding(crate::specs::Written::line_of, crate::specs::Written::text_of_world))]
     pub fn write(&self) -> Result<Vec<u8>, NoMemory>
-        ensures text { IfOk result (λ text. text.items ≡ written self.now) }
+        ensures text { IfOk result (λ text. text.items ≡ text_of_world self.now) }
         // If no line is too long, the text is read as this world.
-        ensures round_trip { IfOk result (λ text. IsWorldText self.now → HasShortLines self.now → read_text text.items ≡ reading_of self.now) }
+        ensures round_trip { IfOk result (λ text. IsWorldText self.now → HasShortLines self.now → read_text Two text.items ≡ reading_of self.now) }
     {
         // The names of its levels make a policy, which the clause `round_trip` needs.
         let _names = self.policy.levels();
@@ -202,7 +203,7 @@ impl WorldText {
         put_head(
             alloc,
             &mut line,
-            Format::One,
+            Format::Two,
             &self.policy,
             &self.world.bound,
         )?;

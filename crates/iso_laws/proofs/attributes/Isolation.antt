@@ -10,7 +10,7 @@ use Rattle.kern_model.specs.declared.checks.Place.{Place}
 use Rattle.kern_model.specs.declared.numbers.Oid.{Oid}
 use Rattle.kern_model.specs.declared.numbers.Pid.{Pid}
 use Rattle.kern_model.specs.declared.objects.Object.{Object}
-use Rattle.kern_model.specs.AttrRows.{chmod_row, chown_row, cap_get_file_row, cap_get_fd_row, cap_set_file_row, cap_set_fd_row, mac_get_file_row, mac_get_fd_row, mac_set_file_row, mac_set_fd_row, written, report_caps, report_label, change_mode, change_owner, change_caps, relabel, give_label}
+use Rattle.kern_model.specs.AttrRows.{chmod_row, chown_row, cap_get_file_row, cap_get_fd_row, cap_set_file_row, cap_set_fd_row, mac_get_file_row, mac_get_fd_row, mac_set_file_row, mac_set_fd_row, write_object_then, report_caps, report_label, change_mode, change_owner, change_caps, relabel, give_label}
 use Rattle.kern_model.specs.Isolation.{low, Kept}
 use Rattle.kern_model.specs.Keys.{same_oid}
 use Rattle.kern_model.specs.Kinds.{is_dir}
@@ -56,7 +56,7 @@ module _ (l : Label) (s : State) (kept : Kept l s) (valid : IsValid s) (who : Pi
   -- the row of a call that changes what a path leads to, by that alone
   low_change_path : (path : PathValue) (k : Oid → Place → Object → Row)
       → ((id : Oid) (place : Place) (o : Object) → low l id.label ≡ true → EachCommit (AreVisible l s) (k id place o))
-      → SameInPart l s who p (on_path s p path (written s p k)) (on_path part_s p path (written part_s p k))
+      → SameInPart l s who p (on_path s p path (write_object_then s p k)) (on_path part_s p path (write_object_then part_s p k))
   low_change_path path k seen = low_write l s kept valid who p is is_low path k k (low_change k seen)
 
   pub chmod_low : (path : PathValue) (mode : ℕ) → SameInPart l s who p (chmod_row s who p path mode) (chmod_row part_s who p path mode)

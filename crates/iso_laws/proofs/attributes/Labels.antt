@@ -15,7 +15,7 @@ use Rattle.kern_model.specs.Isolation.{low, Kept}
 use Rattle.kern_model.specs.Keys.{Spot, oid_cmp, same_oid}
 use Rattle.kern_model.specs.Maps.{where_key}
 use Rattle.kern_model.specs.Rules.{is_above_holders}
-use Rattle.kern_model.specs.State.{State, Process, Description, SetObject, changed, object_at, stub_object, root}
+use Rattle.kern_model.specs.State.{State, Process, Description, SetObject, apply_change, object_at, stub_object, root}
 use Rattle.kern_model.specs.Valid.{IsValid, IsDir, IsThere, IsValidObject, IsValidEntry, IsValidProcess, IsValidDescription}
 use Rattle.kern_model.proofs.KeyLaws.{oid_cmp_total, oid_cmp_exact, spot_cmp_total, spot_cmp_exact}
 use Rattle.kern_model.proofs.MapLemmas.{each-insert, get-insert_same, get_or-found, same_key, some_same}
@@ -48,7 +48,7 @@ module _ (s : State) (valid : IsValid s) (id : Oid) (o : Object) (is : map.get s
   objects = map.insert s.objects id relabelled
 
   abbrev next_state : State
-  next_state = changed s (SetObject id relabelled)
+  next_state = apply_change s (SetObject id relabelled)
 
   -- another object is as it was
   other_is : (q : Oid) → same_oid q id ≡ false → map.get objects q ≡ map.get s.objects q

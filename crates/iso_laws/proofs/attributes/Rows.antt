@@ -10,7 +10,7 @@ use Rattle.kern_model.specs.declared.numbers.Oid.{Oid}
 use Rattle.kern_model.specs.declared.numbers.Pid.{Pid}
 use Rattle.kern_model.specs.declared.objects.Attr.{Attr}
 use Rattle.kern_model.specs.declared.records.Rec.{Rec}
-use Rattle.kern_model.specs.AttrRows.{on_open_object, written, change_mode, change_owner, chmod_row, chown_row, cap_get_file_row, cap_set_file_row, cap_get_fd_row, cap_set_fd_row, mac_get_file_row, mac_set_file_row, mac_get_fd_row, mac_set_fd_row, get_caps, set_caps, get_label, set_label}
+use Rattle.kern_model.specs.AttrRows.{on_open_object, write_object_then, change_mode, change_owner, chmod_row, chown_row, cap_get_file_row, cap_set_file_row, cap_get_fd_row, cap_set_fd_row, mac_get_file_row, mac_set_file_row, mac_get_fd_row, mac_set_fd_row, get_caps, set_caps, get_label, set_label}
 use Rattle.kern_model.specs.Kinds.{is_mode, permissions}
 use Rattle.kern_model.specs.Row.{Row}
 use Rattle.kern_model.specs.Rules.{on_object, same_label, mac_upgrade, mac_downgrade}
@@ -44,7 +44,7 @@ module _ (Known : Check → Type 0) (Not : Bool → Type 0) (Given : Premise →
 
   -- ---- modes and owners
   pub chmod_kinds : (path : PathValue) (mode : ℕ) → (Given InRange → is_mode mode ≡ true) → OfKinds Known Not Given s who p (chmod_row s who p path mode)
-  chmod_kinds path mode args = on_reached path (written s p (change_mode p mode)) (λ id place reached.
+  chmod_kinds path mode args = on_reached path (write_object_then s p (change_mode p mode)) (λ id place reached.
       let old : Attr = (object_at s id).attr in (
         of_reached _ _ id place reached,
         λ may. (
@@ -60,7 +60,7 @@ module _ (Known : Check → Type 0) (Not : Bool → Type 0) (Given : Premise →
       ))
 
   pub chown_kinds : (path : PathValue) (user group : ℕ) → OfKinds Known Not Given s who p (chown_row s who p path user group)
-  chown_kinds path user group = on_reached path (written s p (change_owner p user group)) (λ id place reached.
+  chown_kinds path user group = on_reached path (write_object_then s p (change_owner p user group)) (λ id place reached.
       let old : Attr = (object_at s id).attr in (
         of_reached _ _ id place reached,
         λ may. (

@@ -16,7 +16,7 @@ use Rattle.kern_model.specs.declared.objects.Object.{Object}
 use Rattle.kern_model.specs.Descriptors.{any_open, open_count, lowest_free, with_descriptor}
 use Rattle.kern_model.specs.Keys.{Spot, oid_cmp, pid_cmp, did_cmp, same_oid}
 use Rattle.kern_model.specs.Kinds.{is_dir}
-use Rattle.kern_model.specs.State.{State, Process, Description, SetObject, SetProcess, SetDescription, DrawDescription, changed, changed_by, drawn, next_description, root}
+use Rattle.kern_model.specs.State.{State, Process, Description, SetObject, SetProcess, SetDescription, DrawDescription, apply_change, apply_changes, last_drawn, next_description, root}
 use Rattle.kern_model.specs.Valid.{IsValid, IsThere, IsDrawn, AreFew, IsReached, IsHeld, IsValidObject, IsValidEntry, IsValidProcess, IsValidDescription}
 use Rattle.kern_model.proofs.KeyLaws.{oid_cmp_total, oid_cmp_exact, pid_cmp_total, pid_cmp_exact, did_cmp_total, did_cmp_exact}
 use Rattle.kern_model.proofs.MapLemmas.{each-insert, get-insert_same, get-insert_kept, same_key, some_same, never_some}
@@ -73,7 +73,7 @@ module _ (s : State) (objects : FinMap oid_cmp Object) (procs : FinMap pid_cmp P
 
   -- a process stays valid where what it belongs together with is there
   pub open_process_in : ((id : Oid) (o : Object) → map.get s.objects id ≡ Some o → IsLike objects id o)
-      → ((label : Label) (n : ℕ) → IsDrawn n (drawn s.process_numbers label) → IsDrawn n (drawn process_numbers label))
+      → ((label : Label) (n : ℕ) → IsDrawn n (last_drawn s.process_numbers label) → IsDrawn n (last_drawn process_numbers label))
       → (who : Pid) (p : Process) → IsValidAlone s who p → ((q : Pid) → p.parent ≡ Some q → IsThere procs q) → ((fd : ℕ) (did : Did) → map.get p.fds fd ≡ Some did → (fd < MAX_DESCRIPTORS) × IsThere descriptions did) → IsValidProcess with_open who p
   open_process_in still = process_in s with_open refl (λ id o e. of_kind objects id o (still id o e))
 
@@ -172,7 +172,7 @@ module _ (s : State) (valid : IsValid s) where
 
   -- a description stays valid in a state with the same objects, if it is still held
   pub still_valid_description : (procs : FinMap pid_cmp Process) (descriptions : FinMap did_cmp Description) (process_numbers description_numbers : FinMap label_cmp ℕ)
-      → ((did : Did) (d : Description) → IsValidDescription s did d → IsDrawn did.n (drawn description_numbers did.label))
+      → ((did : Did) (d : Description) → IsValidDescription s did d → IsDrawn did.n (last_drawn description_numbers did.label))
       → ((did : Did) → IsHeld s did → IsHeld (with_open s s.objects procs descriptions process_numbers description_numbers) did)
       → (did : Did) (d : Description) → map.get s.descriptions did ≡ Some d → IsValidDescription (with_open s s.objects procs descriptions process_numbers description_numbers) did d
   still_valid_description procs descriptions process_numbers description_numbers still held did d e =
@@ -181,7 +181,7 @@ module _ (s : State) (valid : IsValid s) where
 
   -- ---- a process is set that has the descriptors that it had, if it was there
   pub valid_process : (who : Pid) (q : Process) → ((p : Process) → map.get s.procs who ≡ Some p → q.fds ≡ p.fds) → IsValidProcess s who q
-      → IsValid (changed s (SetProcess who q))
+      → IsValid (apply_change s (SetProcess who q))
   valid_process who q fds new =
       let procs : FinMap pid_cmp Process = map.insert s.procs who q in
       let still : (r : Pid) → IsThere s.procs r → IsThere procs r = still_there pid_cmp_total s.procs who q in
@@ -205,7 +205,7 @@ module _ (s : State) (valid : IsValid s) where
     moved_state = with_open s s.objects s.procs moved_descriptions s.process_numbers s.description_numbers
 
     -- a state stays valid where an open description is set to another one of the same object
-    pub valid_moved : IsValid (changed s (SetDescription did new))
+    pub valid_moved : IsValid (apply_change s (SetDescription did new))
     valid_moved =
         let on : (q : Did) (x : Description) → map.get s.descriptions q ≡ Some x → IsOn moved_descriptions q x.object = set_on s.descriptions did new (λ x e. same ∙ ap (λ (y : Description). y.object) (some_same d x (sym is ∙ e))) in
         let told = valid.descriptions did d is in
@@ -245,7 +245,7 @@ module _ (s : State) (valid : IsValid s) where
         description_in s set_state refl (λ id o e. of_kind set_objects id o (still_like id o e)) q d old old.drawn_already (held_in s set_state refl (λ who p e. e) q old.held)
 
     -- a state stays valid where the content of an object is set, if it is valid, and a FIFO that gets bytes has a description
-    pub valid_content : HasValidContent new → (new.kind ≡ kind.Fifo → any_open s (λ d. true) id ≡ false → new.bytes ≡ []) → IsValid (changed s (SetObject id new))
+    pub valid_content : HasValidContent new → (new.kind ≡ kind.Fifo → any_open s (λ d. true) id ≡ false → new.bytes ≡ []) → IsValid (apply_change s (SetObject id new))
     valid_content content fifo_bytes =
         valid_open s set_objects s.procs s.descriptions s.process_numbers s.description_numbers valid still_like
         (each-insert oid_cmp_total oid_cmp_exact (λ (q : Oid) (o : Object). IsLike s.objects q o) s.objects (itself_like s.objects) id new (record { object = old; is = is; kind_is = sym kind_is; label_is = sym label_is }))
@@ -293,7 +293,7 @@ module _ (s : State) (valid : IsValid s) where
           (each-insert nat_cmp_total nat_cmp-IsAntisymmetric (λ (fd : ℕ) (q : Did). (fd < MAX_DESCRIPTORS) × IsThere descriptions q) p.fds (λ fd q e. let has = own.fds fd q e in (has.0, still q has.1)) (lowest_free p.fds) did (lowest_below p free, there)))
 
     -- a state stays valid where a process gets a further descriptor of a description that is there
-    pub valid_shared : IsThere s.descriptions did → open_count p + 1 ≤ MAX_DESCRIPTORS → IsValid (changed s (SetProcess who holder))
+    pub valid_shared : IsThere s.descriptions did → open_count p + 1 ≤ MAX_DESCRIPTORS → IsValid (apply_change s (SetProcess who holder))
     valid_shared there free =
         valid_open s s.objects more_procs s.descriptions s.process_numbers s.description_numbers valid (itself_like s.objects) (itself_like s.objects)
         (still_valid_object more_procs s.descriptions s.process_numbers s.description_numbers (λ id none. none))
@@ -302,7 +302,7 @@ module _ (s : State) (valid : IsValid s) where
         valid.process_numbers valid.description_numbers
 
   -- no description has a number after the last one that was drawn
-  pub unnumbered : (did : Did) → drawn s.description_numbers did.label < did.n → map.get s.descriptions did ≡ None
+  pub unnumbered : (did : Did) → last_drawn s.description_numbers did.label < did.n → map.get s.descriptions did ≡ None
   unnumbered did after =
       elim (map.get s.descriptions did) as (λ w. map.get s.descriptions did ≡ w → w ≡ None) [
         | None ↦ λ _. refl
@@ -318,14 +318,14 @@ module _ (s : State) (valid : IsValid s) where
     opened_descriptions = map.insert s.descriptions new d
 
     abbrev more_numbers : FinMap label_cmp ℕ
-    more_numbers = map.insert s.description_numbers p.label (drawn s.description_numbers p.label + 1)
+    more_numbers = map.insert s.description_numbers p.label (last_drawn s.description_numbers p.label + 1)
 
     abbrev opened_state : State
     opened_state = more_state who p is new opened_descriptions more_numbers
 
     -- a state stays valid where a process gets a further descriptor, of a new description
-    pub valid_opened : open_count p + 1 ≤ MAX_DESCRIPTORS → drawn s.description_numbers p.label + 1 ≤ MAX_DESCRIPTIONS
-        → IsValid (changed_by s (DrawDescription p.label (drawn s.description_numbers p.label + 1) ∷ SetDescription new d ∷ SetProcess who (with_descriptor p new) ∷ []))
+    pub valid_opened : open_count p + 1 ≤ MAX_DESCRIPTORS → last_drawn s.description_numbers p.label + 1 ≤ MAX_DESCRIPTIONS
+        → IsValid (apply_changes s (DrawDescription p.label (last_drawn s.description_numbers p.label + 1) ∷ SetDescription new d ∷ SetProcess who (with_descriptor p new) ∷ []))
     valid_opened free left =
         let absent : map.get s.descriptions new ≡ None = unnumbered new (omega arith) in
         let on : (q : Did) (x : Description) → map.get s.descriptions q ≡ Some x → IsOn opened_descriptions q x.object = set_on s.descriptions new d (λ x e. absurd (never_some (map.get s.descriptions new) x absent e)) in
@@ -339,5 +339,5 @@ module _ (s : State) (valid : IsValid s) where
         valid.process_numbers
         (record {
           below = still_below s.description_numbers p.label s.top (valid.procs who p is).below valid.description_numbers.below;
-          few = each_set_at label_cmp_total label_cmp_exact (λ (l : Label) (n : ℕ). n ≤ MAX_DESCRIPTIONS) 0 s.description_numbers p.label (drawn s.description_numbers p.label + 1) left valid.description_numbers.few;
+          few = each_set_at label_cmp_total label_cmp_exact (λ (l : Label) (n : ℕ). n ≤ MAX_DESCRIPTIONS) 0 s.description_numbers p.label (last_drawn s.description_numbers p.label + 1) left valid.description_numbers.few;
         })

@@ -13,22 +13,22 @@ use Rattle.kern_model.specs.declared.numbers.Oid.{Oid}
 use Rattle.kern_model.specs.declared.numbers.Pid.{Pid}
 use Rattle.kern_model.specs.declared.objects.Kind.TheVariants as kind
 use Rattle.kern_model.specs.declared.objects.Object.{Object}
-use Rattle.kern_model.specs.Descriptors.{Descriptor, closing, let_go, is_let_go, is_drained, truncation, any_open}
+use Rattle.kern_model.specs.Descriptors.{Descriptor, changes_of_close, let_go, is_let_go, is_drained, truncation, any_open}
 use Rattle.kern_model.specs.Keys.{pid_cmp, did_cmp, same_oid, same_pid}
 use Rattle.kern_model.specs.Kinds.{is_fifo}
-use Rattle.kern_model.specs.State.{State, Process, Description, Change, SetObject, SetProcess, DropDescription, changed, changed_by, object_at, stub_object}
+use Rattle.kern_model.specs.State.{State, Process, Description, Change, SetObject, SetProcess, DropDescription, apply_change, apply_changes, object_at, stub_object}
 use Rattle.kern_model.specs.Valid.{IsValid, IsThere, IsValidObject, IsValidProcess}
 use Rattle.kern_model.proofs.KeyLaws.{oid_cmp_total, oid_cmp_exact, pid_cmp_total, pid_cmp_exact, did_cmp_total, did_cmp_exact}
 use Rattle.kern_model.proofs.MapLemmas.{each-insert, get-insert_same, get_or-found, never_some, same_key, some_same}
 use Rattle.iso_laws.proofs.AllLemmas.{all_each, all_always}
 use Rattle.iso_laws.proofs.ClosingLemmas.{let_go_each, each_closing}
-use Rattle.iso_laws.proofs.Part.{changed_by-append}
 use Rattle.kern_model.proofs.Selections.{none_pass, none_passes, some_passes, get-remove_same, get-remove_other, get-remove_none}
 use Rattle.iso_laws.proofs.files.Changes.{IsLike, with_open, open_object_in, open_process_in, valid_open}
 use Rattle.iso_laws.proofs.files.Closing.{IsDescriptorOf, Preserves, preserved_over, stays_there, staying_descriptor}
 use Rattle.iso_laws.proofs.KeyLemmas.{still_there}
 use Rattle.std.proofs.lemmas.Cmp.{eq_by_cmp_equiv}
 use Rattle.iso_laws.proofs.ValidIn.{HasValidContent, content_of, IsValidAlone, alone_of}
+use Rattle.kern_model.proofs.StateLemmas.{apply_changes-append}
 
 -- ---- the descriptions and objects that are left
 module _ (s : State) (goes : Descriptor → Bool) where
@@ -36,43 +36,43 @@ module _ (s : State) (goes : Descriptor → Bool) where
   going = flat_map (let_go s goes)
 
   -- one description goes, with the bytes of an object or without
-  dropped : (did : Did) (id : Oid) (b : Bool) (t : State) → (changed_by t (DropDescription did ∷ cond b (truncation s id ∷ []) [])).descriptions ≡ table.remove t.descriptions did
+  dropped : (did : Did) (id : Oid) (b : Bool) (t : State) → (apply_changes t (DropDescription did ∷ cond b (truncation s id ∷ []) [])).descriptions ≡ table.remove t.descriptions did
   dropped did id true t = refl
   dropped did id false t = refl
 
   -- other descriptions stay
-  one_stays : (did : Did) (e : Did × Description) → (is_let_go s goes e.0 ≡ true → eq_by_cmp did_cmp did e.0 ≡ false) → (t : State) → table.get (changed_by t (let_go s goes e)).descriptions did ≡ table.get t.descriptions did
+  one_stays : (did : Did) (e : Did × Description) → (is_let_go s goes e.0 ≡ true → eq_by_cmp did_cmp did e.0 ≡ false) → (t : State) → table.get (apply_changes t (let_go s goes e)).descriptions did ≡ table.get t.descriptions did
   one_stays did e other t =
-      elim (is_let_go s goes e.0) as (λ b. is_let_go s goes e.0 ≡ b → table.get (changed_by t (cond b (DropDescription e.0 ∷ cond (is_drained s goes e.1.object) (truncation s e.1.object ∷ []) []) [])).descriptions did ≡ table.get t.descriptions did) [
+      elim (is_let_go s goes e.0) as (λ b. is_let_go s goes e.0 ≡ b → table.get (apply_changes t (cond b (DropDescription e.0 ∷ cond (is_drained s goes e.1.object) (truncation s e.1.object ∷ []) []) [])).descriptions did ≡ table.get t.descriptions did) [
         | true ↦ λ gone. ap (λ m. table.get m did) (dropped e.0 e.1.object (is_drained s goes e.1.object) t) ∙ get-remove_other did_cmp_total t.descriptions e.0 did (other gone)
         | false ↦ λ _. refl
       ] refl
 
   -- a description that is not let go is left
-  listed_stays : (did : Did) → is_let_go s goes did ≡ false → (es : List (Did × Description)) (t : State) → table.get (changed_by t (going es)).descriptions did ≡ table.get t.descriptions did
+  listed_stays : (did : Did) → is_let_go s goes did ≡ false → (es : List (Did × Description)) (t : State) → table.get (apply_changes t (going es)).descriptions did ≡ table.get t.descriptions did
   listed_stays did stays [] t = refl
   listed_stays did stays (e ∷ es) t =
-      ap (λ (u : State). table.get u.descriptions did) (changed_by-append t (let_go s goes e) (going es))
-      ∙ listed_stays did stays es (changed_by t (let_go s goes e))
+      ap (λ (u : State). table.get u.descriptions did) (apply_changes-append t (let_go s goes e) (going es))
+      ∙ listed_stays did stays es (apply_changes t (let_go s goes e))
       ∙ one_stays did e (λ gone. false_from_ne_true _ (λ same. true≢false (sym gone ∙ ap (is_let_go s goes) (sym (same_key did_cmp_exact did e.0 same)) ∙ stays))) t
 
   -- what the changes of closing carry holds after those of any list of descriptions
-  going_preserves : (Of : State → Type 0) → ((did : Did) → Preserves Of (DropDescription did)) → ((id : Oid) → Preserves Of (truncation s id)) → (es : List (Did × Description)) (t : State) → Of t → Of (changed_by t (going es))
+  going_preserves : (Of : State → Type 0) → ((did : Did) → Preserves Of (DropDescription did)) → ((id : Oid) → Preserves Of (truncation s id)) → (es : List (Did × Description)) (t : State) → Of t → Of (apply_changes t (going es))
   going_preserves Of drop empty es =
       preserved_over Of (going es)
       (all_each (λ (e : Did × Description). Unit {0}) (Preserves Of) (let_go s goes) (λ e _. let_go_each s (Preserves Of) goes e (λ _. (drop e.0, λ _. empty e.1.object))) es (all_always (λ (e : Did × Description). Unit {0}) (λ e. tt) es))
 
   -- a description that is let go is gone
-  listed_goes : (did : Did) → is_let_go s goes did ≡ true → (es : List (Did × Description)) (t : State) → table.get t.descriptions did ≡ find did_cmp did es → table.get (changed_by t (going es)).descriptions did ≡ None
+  listed_goes : (did : Did) → is_let_go s goes did ≡ true → (es : List (Did × Description)) (t : State) → table.get t.descriptions did ≡ find did_cmp did es → table.get (apply_changes t (going es)).descriptions did ≡ None
   listed_goes did gone [] t at = at
   listed_goes did gone (e ∷ es) t at =
-      let after : State = changed_by t (let_go s goes e) in
-      ap (λ (u : State). table.get u.descriptions did) (changed_by-append t (let_go s goes e) (going es))
-      ∙ elim (eq_by_cmp did_cmp did e.0) as (λ b. eq_by_cmp did_cmp did e.0 ≡ b → table.get t.descriptions did ≡ cond b (Some e.1) (find did_cmp did es) → table.get (changed_by after (going es)).descriptions did ≡ None) [
+      let after : State = apply_changes t (let_go s goes e) in
+      ap (λ (u : State). table.get u.descriptions did) (apply_changes-append t (let_go s goes e) (going es))
+      ∙ elim (eq_by_cmp did_cmp did e.0) as (λ b. eq_by_cmp did_cmp did e.0 ≡ b → table.get t.descriptions did ≡ cond b (Some e.1) (find did_cmp did es) → table.get (apply_changes after (going es)).descriptions did ≡ None) [
         | true ↦ λ same _.
             let on : did ≡ e.0 = same_key did_cmp_exact did e.0 same in
             let none : table.get after.descriptions did ≡ None =
-            ap (λ b. table.get (changed_by t (cond b (DropDescription e.0 ∷ cond (is_drained s goes e.1.object) (truncation s e.1.object ∷ []) []) [])).descriptions did) (ap (is_let_go s goes) (sym on) ∙ gone)
+            ap (λ b. table.get (apply_changes t (cond b (DropDescription e.0 ∷ cond (is_drained s goes e.1.object) (truncation s e.1.object ∷ []) []) [])).descriptions did) (ap (is_let_go s goes) (sym on) ∙ gone)
             ∙ ap (λ m. table.get m did) (dropped e.0 e.1.object (is_drained s goes e.1.object) t) ∙ ap (table.get (table.remove t.descriptions e.0)) on ∙ get-remove_same did_cmp_total t.descriptions e.0 in
             going_preserves (λ u. table.get u.descriptions did ≡ None) (λ q u none_u. get-remove_none did_cmp_total u.descriptions q did none_u) (λ id u none_u. none_u) es after none
         | false ↦ λ other at_es. listed_goes did gone es after (one_stays did e (λ _. other) t ∙ at_es)
@@ -86,21 +86,21 @@ module _ (s : State) (goes : Descriptor → Bool) where
   set_empty id at t h o e =
       each-insert oid_cmp_total oid_cmp_exact (λ (k : Oid) (x : Object). k ≡ id → x.bytes ≡ []) t.objects (λ k x is on. h x (ap (table.get t.objects) (sym on) ∙ is)) at (record (object_at s at) { bytes = [] }) (λ _. refl) id o e refl
 
-  now_empty : (id : Oid) (t : State) → IsEmptyAt id (changed t (truncation s id))
+  now_empty : (id : Oid) (t : State) → IsEmptyAt id (apply_change t (truncation s id))
   now_empty id t o e = ap (λ (x : Object). x.bytes) (some_same o (record (object_at s id) { bytes = [] }) (sym e ∙ get-insert_same oid_cmp_total t.objects id (record (object_at s id) { bytes = [] })))
 
   -- an object that is drained is empty once a description of it is let go
-  listed_drains : (did : Did) (d : Description) → is_let_go s goes did ≡ true → is_drained s goes d.object ≡ true → (es : List (Did × Description)) (t : State) → find did_cmp did es ≡ Some d → IsEmptyAt d.object (changed_by t (going es))
+  listed_drains : (did : Did) (d : Description) → is_let_go s goes did ≡ true → is_drained s goes d.object ≡ true → (es : List (Did × Description)) (t : State) → find did_cmp did es ≡ Some d → IsEmptyAt d.object (apply_changes t (going es))
   listed_drains did d gone drained [] t at = absurd (never_some None d refl at)
   listed_drains did d gone drained (e ∷ es) t at =
-      subst (IsEmptyAt d.object) (sym (changed_by-append t (let_go s goes e) (going es)))
-      (elim (eq_by_cmp did_cmp did e.0) as (λ b. eq_by_cmp did_cmp did e.0 ≡ b → cond b (Some e.1) (find did_cmp did es) ≡ Some d → IsEmptyAt d.object (changed_by (changed_by t (let_go s goes e)) (going es))) [
+      subst (IsEmptyAt d.object) (sym (apply_changes-append t (let_go s goes e) (going es)))
+      (elim (eq_by_cmp did_cmp did e.0) as (λ b. eq_by_cmp did_cmp did e.0 ≡ b → cond b (Some e.1) (find did_cmp did es) ≡ Some d → IsEmptyAt d.object (apply_changes (apply_changes t (let_go s goes e)) (going es))) [
         | true ↦ λ same at_e.
             let first : let_go s goes e ≡ DropDescription did ∷ truncation s d.object ∷ [] =
             (λ i. let_go s goes (sym (same_key did_cmp_exact did e.0 same) i, some_same e.1 d at_e i))
             ∙ (λ i. cond (gone i) (DropDescription did ∷ cond (drained i) (truncation s d.object ∷ []) []) []) in
-            going_preserves (IsEmptyAt d.object) (λ q u h. h) (set_empty d.object) es (changed_by t (let_go s goes e)) (subst (λ cs. IsEmptyAt d.object (changed_by t cs)) (sym first) (now_empty d.object (changed t (DropDescription did))))
-        | false ↦ λ _ at_es. listed_drains did d gone drained es (changed_by t (let_go s goes e)) at_es
+            going_preserves (IsEmptyAt d.object) (λ q u h. h) (set_empty d.object) es (apply_changes t (let_go s goes e)) (subst (λ cs. IsEmptyAt d.object (apply_changes t cs)) (sym first) (now_empty d.object (apply_change t (DropDescription did))))
+        | false ↦ λ _ at_es. listed_drains did d gone drained es (apply_changes t (let_go s goes e)) at_es
       ] refl at)
 
 -- an object is one of the state, with its bytes or without
@@ -123,12 +123,12 @@ module _ (s : State) (valid : IsValid s) (goes : Descriptor → Bool) (procs : F
   start = record s { procs = procs }
 
   abbrev pub after_closing : State
-  after_closing = changed_by start (closing s goes)
+  after_closing = apply_changes start (changes_of_close s goes)
 
   -- what no closing alters
-  unaltered : {X : Type 0} (of : State → X) → ((t : State) (did : Did) → of (changed t (DropDescription did)) ≡ of t) → ((t : State) (id : Oid) (o : Object) → of (changed t (SetObject id o)) ≡ of t) → of after_closing ≡ of start
+  unaltered : {X : Type 0} (of : State → X) → ((t : State) (did : Did) → of (apply_change t (DropDescription did)) ≡ of t) → ((t : State) (id : Oid) (o : Object) → of (apply_change t (SetObject id o)) ≡ of t) → of after_closing ≡ of start
   unaltered of drop set =
-      preserved_over (λ t. of t ≡ of start) (closing s goes) (each_closing s (Preserves (λ t. of t ≡ of start)) (λ did t h. drop t did ∙ h) (λ did d _ t h. set t d.object _ ∙ h) goes) start refl
+      preserved_over (λ t. of t ≡ of start) (changes_of_close s goes) (each_closing s (Preserves (λ t. of t ≡ of start)) (λ did t h. drop t did ∙ h) (λ did d _ t h. set t d.object _ ∙ h) goes) start refl
 
   -- the state once descriptors closed has other objects and descriptions
   pub closed_is : after_closing ≡ with_open s after_closing.objects procs after_closing.descriptions s.process_numbers s.description_numbers
@@ -144,7 +144,7 @@ module _ (s : State) (valid : IsValid s) (goes : Descriptor → Bool) (procs : F
 
   -- each description that is left was there, and is not let go
   was_there : (did : Did) (d : Description) → table.get after_closing.descriptions did ≡ Some d → (table.get s.descriptions did ≡ Some d) × (is_let_go s goes did ≡ false)
-  unfolding closing
+  unfolding changes_of_close
   was_there did d e =
       elim (is_let_go s goes did) as (λ b. is_let_go s goes did ≡ b → (table.get s.descriptions did ≡ Some d) × (b ≡ false)) [
         | true ↦ λ gone. absurd (never_some (table.get after_closing.descriptions did) d (listed_goes s goes did gone (table.entries s.descriptions) start (get-entries s.descriptions did)) e)
@@ -152,11 +152,11 @@ module _ (s : State) (valid : IsValid s) (goes : Descriptor → Bool) (procs : F
       ] refl
 
   same_there : (did : Did) → is_let_go s goes did ≡ false → table.get after_closing.descriptions did ≡ table.get s.descriptions did
-  unfolding closing
+  unfolding changes_of_close
   same_there did stays = listed_stays s goes did stays (table.entries s.descriptions) start
 
   drains : (did : Did) (d : Description) → table.get s.descriptions did ≡ Some d → is_let_go s goes did ≡ true → is_drained s goes d.object ≡ true → IsEmptyAt s goes d.object after_closing
-  unfolding closing
+  unfolding changes_of_close
   drains did d e gone drained = listed_drains s goes did d gone drained (table.entries s.descriptions) start (sym (get-entries s.descriptions did) ∙ e)
 
   abbrev AreLeft : State → Type 0
@@ -164,7 +164,7 @@ module _ (s : State) (valid : IsValid s) (goes : Descriptor → Bool) (procs : F
 
   -- each object that is left is one of the state, and each one of the state is left
   are_left : AreLeft after_closing
-  are_left = preserved_over AreLeft (closing s goes) (each_closing s (Preserves AreLeft) (λ did t h. h) (λ did d e t h.
+  are_left = preserved_over AreLeft (changes_of_close s goes) (each_closing s (Preserves AreLeft) (λ did t h. h) (λ did d e t h.
       let described = valid.descriptions did d e in
       let at : object_at s d.object ≡ described.object = get_or-found s.objects d.object (stub_object s.top) described.object described.object_is in (
         each-insert oid_cmp_total oid_cmp_exact (IsLeft s) t.objects h.0 d.object (record (object_at s d.object) { bytes = [] }) (record { old = described.object; is = described.object_is; same_but = λ i. record (at i) { bytes = [] }; bytes = inr refl }),
@@ -297,7 +297,7 @@ module _ (s : State) (who : Pid) (p : Process) (is : table.get s.procs who ≡ S
       ] refl stays
 
   -- a valid state stays valid
-  pub valid_close : IsValid s → IsValid (changed_by s (SetProcess who without ∷ closing s (has_fd who fd)))
+  pub valid_close : IsValid s → IsValid (apply_changes s (SetProcess who without ∷ changes_of_close s (has_fd who fd)))
   valid_close valid =
       let own : IsValidProcess s who p = valid.procs who p is in
       let still : (q : Pid) → IsThere s.procs q → IsThere procs_without q = still_there pid_cmp_total s.procs who without in

@@ -12,12 +12,12 @@ use Rattle.kern_model.specs.declared.numbers.Did.{Did}
 use Rattle.kern_model.specs.declared.numbers.Oid.{Oid}
 use Rattle.kern_model.specs.declared.numbers.Pid.{Pid}
 use Rattle.kern_model.specs.declared.objects.Object.{Object}
-use Rattle.kern_model.specs.Descriptors.{Descriptor, descriptors, closing, let_go, is_let_go, is_drained, truncation}
+use Rattle.kern_model.specs.Descriptors.{Descriptor, descriptors, changes_of_close, let_go, is_let_go, is_drained, truncation}
 use Rattle.kern_model.specs.Isolation.{low, Kept}
 use Rattle.kern_model.specs.Keys.{did_cmp, same_oid, same_did}
 use Rattle.kern_model.specs.Kinds.{is_fifo, is_stream}
 use Rattle.kern_model.specs.Maps.{any_entry, where_key}
-use Rattle.kern_model.specs.State.{State, Process, Description, Change, SetObject, DropDescription, changed, changed_by, object_at, stub_object}
+use Rattle.kern_model.specs.State.{State, Process, Description, Change, SetObject, DropDescription, apply_change, apply_changes, object_at, stub_object}
 use Rattle.kern_model.specs.Valid.{IsValid}
 use Rattle.kern_model.proofs.KeyLaws.{oid_cmp_exact, pid_cmp_total, pid_cmp_exact, did_cmp_total, did_cmp_exact}
 use Rattle.kern_model.proofs.MapLemmas.{each-remove, get_or-found, same_key}
@@ -119,12 +119,12 @@ module _ (s : State) (valid : IsValid s) (goes : Descriptor → Bool) where
 
 -- a change carries a property of states
 abbrev pub Preserves : (State → Type 0) → Change → Type 0
-Preserves Of c = (t : State) → Of t → Of (changed t c)
+Preserves Of c = (t : State) → Of t → Of (apply_change t c)
 
 -- what each change carries holds after all of them
-pub preserved_over : (Of : State → Type 0) (cs : List Change) → AllByRecursion (Preserves Of) cs → (t : State) → Of t → Of (changed_by t cs)
+pub preserved_over : (Of : State → Type 0) (cs : List Change) → AllByRecursion (Preserves Of) cs → (t : State) → Of t → Of (apply_changes t cs)
 preserved_over Of [] h t of = of
-preserved_over Of (c ∷ cs) h t of = preserved_over Of cs h.1 (changed t c) (h.0 t of)
+preserved_over Of (c ∷ cs) h t of = preserved_over Of cs h.1 (apply_change t c) (h.0 t of)
 
 -- ---- closing in the part
 pub part_changes-flat_map : {X : Type 0} (l top : Label) (f : X → List Change) (xs : List X) → part_changes l top (flat_map f xs) ≡ flat_map (λ x. part_changes l top (f x)) xs
@@ -197,8 +197,8 @@ module _ (l : Label) (s : State) (kept : Kept l s) (valid : IsValid s) (goes : D
   let_go_hidden did d e high = part_of_high l s.top (let_go s goes (did, d)) (let_go_each s (λ c. low l (change_label c) ≡ false) goes (did, d) (λ _. (high, λ drained. sym (drained_side did d e drained) ∙ high)))
 
   -- what closes in the part is the part of what closes in the state
-  pub closing_low : closing part_s goes ≡ part_changes l s.top (closing s goes)
-  unfolding closing part_by_number
+  pub closing_low : changes_of_close part_s goes ≡ part_changes l s.top (changes_of_close s goes)
+  unfolding changes_of_close part_by_number
   closing_low =
       let seen : Did → Description → List Change = λ did d. part_changes l s.top (let_go s goes (did, d)) in
       let in_part : Did → Description → List Change = λ did d. let_go part_s goes (did, d) in
@@ -210,8 +210,8 @@ module _ (l : Label) (s : State) (kept : Kept l s) (valid : IsValid s) (goes : D
       ∙ sym (part_changes-flat_map l s.top (let_go s goes) (table.entries s.descriptions))
 
   -- the part sees nothing where only descriptors of processes that are not Low close
-  pub closing_hidden : ((d : Descriptor) → IsDescriptorOf s d → goes d ≡ true → low l d.who.label ≡ false) → part_changes l s.top (closing s goes) ≡ []
-  closing_hidden hidden = part_of_high l s.top (closing s goes) (each_let_go s (λ c. low l (change_label c) ≡ false) goes (λ did d e gone.
+  pub closing_hidden : ((d : Descriptor) → IsDescriptorOf s d → goes d ≡ true → low l d.who.label ≡ false) → part_changes l s.top (changes_of_close s goes) ≡ []
+  closing_hidden hidden = part_of_high l s.top (changes_of_close s goes) (each_let_go s (λ c. low l (change_label c) ≡ false) goes (λ did d e gone.
       let found = passing_descriptor (goes_with s valid goes did) s (and_parts _ _ gone).0 in
       let f : Descriptor = found.descriptor in
       let parts = and_parts _ _ found.passes in
@@ -224,9 +224,9 @@ module _ (l : Label) (s : State) (kept : Kept l s) (valid : IsValid s) (goes : D
   KeptWith t = Kept l t × ((did : Did) (d : Description) → table.get t.descriptions did ≡ Some d → table.get s.descriptions did ≡ Some d)
 
   -- a kept state stays kept
-  pub kept_closed : (t : State) → Kept l t → t.descriptions ≡ s.descriptions → Kept l (changed_by t (closing s goes))
+  pub kept_closed : (t : State) → Kept l t → t.descriptions ≡ s.descriptions → Kept l (apply_changes t (changes_of_close s goes))
   kept_closed t kept_t same_descriptions =
-      (preserved_over KeptWith (closing s goes) (each_closing s (Preserves KeptWith)
+      (preserved_over KeptWith (changes_of_close s goes) (each_closing s (Preserves KeptWith)
       (λ did u h. (kept_dropped l u h.0 did, each-remove did_cmp_total did_cmp_exact (λ (q : Did) (x : Description). table.get s.descriptions q ≡ Some x) u.descriptions h.1 did))
       (λ did d e u h.
       let described = valid.descriptions did d e in

@@ -13,8 +13,8 @@ use Rattle.kern_model.specs.declared.limits.TheConstants.{MAX_DESCRIPTIONS}
 use Rattle.kern_model.specs.declared.numbers.Oid.{Oid}
 use Rattle.kern_model.specs.declared.numbers.Pid.{Pid}
 use Rattle.kern_model.specs.declared.objects.Object.{Object}
-use Rattle.kern_model.specs.Descriptors.{Opened, any_open, closing}
-use Rattle.kern_model.specs.FileRows.{pipe_row, make_pipe, make_pipe_after, pipe_creation, close_row, dup_row, fstat_row, lseek_row, seek_opened, moves, base_of, read_row, taking, write_row, putting, into_stream, into_file, place_in, open_object, offset_change}
+use Rattle.kern_model.specs.Descriptors.{Opened, any_open, changes_of_close}
+use Rattle.kern_model.specs.FileRows.{pipe_row, make_pipe, make_pipe_after, pipe_creation, close_row, dup_row, fstat_row, lseek_row, seek_opened, moves, base_of, read_row, take_from, write_row, put_in_stream, into_stream, into_file, place_in, open_object, offset_change}
 use Rattle.kern_model.specs.Isolation.{low, Kept}
 use Rattle.kern_model.specs.Kinds.{is_stream}
 use Rattle.kern_model.specs.Row.{Row, Need}
@@ -69,7 +69,7 @@ module _ (l : Label) (s : State) (kept : Kept l s) (valid : IsValid s) (who : Pi
       let gone : Change = SetProcess who (without_fd p fd) in
       in_part_commit l s who p _ _ answer.Nothing None
       (ap (λ cs. gone ∷ cs) (closing_low l s kept valid (has_fd who fd))
-      ∙ sym (sees_first l s.top gone (closing s (has_fd who fd)) (kept.procs who p is ∙ is_low))))
+      ∙ sym (sees_first l s.top gone (changes_of_close s (has_fd who fd)) (kept.procs who p is ∙ is_low))))
 
   pub pipe_low : SameInPart l s who p (pipe_row s who p) (pipe_row part_s who p)
   pipe_low =
@@ -119,7 +119,7 @@ module _ (l : Label) (s : State) (kept : Kept l s) (valid : IsValid s) (who : Pi
       (in_part_need_if l s who p _ _ _ _ _ _ (λ i. is_stream (same i).kind)
       (ap (λ (o : Object). mac_write_of p id o Handle) same)
       (in_part_refuse l s who p errno.EAGAIN _ _ _ _ (same_again f h)
-      (λ _. low_by_object l s kept valid who p is is_low id h (λ o. taking (is_stream o.kind) n f o)
+      (λ _. low_by_object l s kept valid who p is is_low id h (λ o. take_from (is_stream o.kind) n f o)
       (each_commit_cond (AreVisible l s) (is_stream (open_object s f).kind) _ _ (part_of_low l s.top (SetObject id _ ∷ []) (h, tt))
       (part_of_low l s.top (offset_change f _ ∷ []) (low_did, tt))))))))
 
@@ -132,7 +132,7 @@ module _ (l : Label) (s : State) (kept : Kept l s) (valid : IsValid s) (who : Pi
       in_part_refuse l s who p errno.EBADF _ _ _ _ refl
       (λ _. low_handle_write f h _ _
       (in_part_cond l s who p _ _ _ _ _ _ (λ i. is_stream (same i).kind)
-      (λ stream. subst (λ o. SameInPart l s who p (putting s f bytes) (into_stream part_s bytes f o)) (sym same)
+      (λ stream. subst (λ o. SameInPart l s who p (put_in_stream s f bytes) (into_stream part_s bytes f o)) (sym same)
       (in_part_refuse l s who p errno.EPIPE _ _ _ _ (ap not (any_open_low l s kept valid id h stream (λ d. d.reads)))
       (λ _. in_part_itself l s who p _ (refl, part_of_low l s.top (SetObject id _ ∷ []) (h, tt)))))
       (λ _. low_by_object l s kept valid who p is is_low id h (into_file bytes f)

@@ -21,10 +21,10 @@ use Rattle.kern_model.specs.declared.objects.Object.{Object}
 use Rattle.kern_model.specs.Arguments.{are_flags}
 use Rattle.kern_model.specs.Create.{attr_of, creation}
 use Rattle.kern_model.specs.Descriptors.{lowest_free}
-use Rattle.kern_model.specs.FileRows.{description_creation_after, opened_with, opening, content_change, unprivileged}
+use Rattle.kern_model.specs.FileRows.{description_creation_after, opened_with, description_creation, content_change, unprivileged}
 use Rattle.kern_model.specs.OpenRows.{open_row, open_found, open_present, open_absent, allowed_by_label, open_labelled, opens, opens_present}
 use Rattle.kern_model.specs.Isolation.{low, Kept}
-use Rattle.kern_model.specs.Kinds.{object_with, masked}
+use Rattle.kern_model.specs.Kinds.{object_with, masked_permissions}
 use Rattle.kern_model.specs.Row.{Row, need_if}
 use Rattle.kern_model.specs.Rules.{mac_write_of}
 use Rattle.kern_model.specs.State.{State, Process, Change, next_object, object_at}
@@ -44,16 +44,16 @@ module _ (l : Label) (s : State) (kept : Kept l s) (valid : IsValid s) (who : Pi
   low_opens : (id id' : Oid) → id' ≡ id → (before before' : List Change) → before' ≡ part_changes l s.top before
       → SameInPart l s who p (opens s who p id flags before) (opens part_s who p id' flags before')
   low_opens id id' same before before' seen =
-      let seen_opening : opening part_s who p id' flags ≡ part_changes l s.top (opening s who p id flags) =
+      let seen_opening : description_creation part_s who p id' flags ≡ part_changes l s.top (description_creation s who p id flags) =
       (λ i. description_creation_after (descriptions_drawn_low l s p.label is_low i) p.label who p (opened_with flags (same i)))
-      ∙ sym (part_of_low l s.top (opening s who p id flags) (is_low, (is_low, (kept.procs who p is ∙ is_low, tt)))) in
+      ∙ sym (part_of_low l s.top (description_creation s who p id flags) (is_low, (is_low, (kept.procs who p is ∙ is_low, tt)))) in
       in_part_commit l s who p _ _ (answer.Number (lowest_free p.fds)) None
-      ((λ i. seen i ++ seen_opening i) ∙ sym (part_changes-append l s.top before (opening s who p id flags)))
+      ((λ i. seen i ++ seen_opening i) ∙ sym (part_changes-append l s.top before (description_creation s who p id flags)))
 
   low_absent : (mode : ℕ) (dir : Oid) (name : Name) (place : Place) → low l dir.label ≡ true → IsDir s.objects dir
       → SameInPart l s who p (open_absent s who p flags mode dir name place) (open_absent part_s who p flags mode dir name place)
   low_absent mode dir name place h is_dir =
-      let o : Object = object_with p.label (attr_of p (masked mode p.umask)) (body.File []) in
+      let o : Object = object_with p.label (attr_of p (masked_permissions mode p.umask)) (body.File []) in
       in_part_refuse l s who p errno.ENOENT _ _ _ _ refl
       (λ _. low_enter_in l s kept valid who p is is_low dir h is_dir _ _ _ (created_order_low l s kept valid who p is is_low dir place h) _ _
       (in_part_refuse l s who p errno.ENOSPC _ _ _ _ (ap not (has_object_number_low l s kept valid who p is is_low))

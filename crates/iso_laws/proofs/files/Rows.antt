@@ -18,9 +18,9 @@ use Rattle.kern_model.specs.Arguments.{are_flags, are_names}
 use Rattle.kern_model.specs.Create.{attr_of, has_object_number}
 use Rattle.kern_model.specs.Descriptors.{Opened}
 use Rattle.kern_model.specs.Entries.{is_removed}
-use Rattle.kern_model.specs.FileRows.{close_row, read_row, write_row, lseek_row, dup_row, pipe_row, fstat_row, on_descriptor, open_object, writing, unprivileged}
+use Rattle.kern_model.specs.FileRows.{close_row, read_row, write_row, lseek_row, dup_row, pipe_row, fstat_row, on_descriptor, open_object, put_in_file, unprivileged}
 use Rattle.kern_model.specs.OpenRows.{open_row, open_found, open_present, open_absent, open_emptying}
-use Rattle.kern_model.specs.Kinds.{is_file, is_stream, object_with, masked}
+use Rattle.kern_model.specs.Kinds.{is_file, is_stream, object_with, masked_permissions}
 use Rattle.kern_model.specs.Row.{Row, need_if}
 use Rattle.kern_model.specs.Rules.{on_object, mac_write, created_order}
 use Rattle.kern_model.specs.State.{State, Process, object_at}
@@ -68,7 +68,7 @@ module _ (Known : Check → Type 0) (Not : Bool → Type 0) (Given : Premise →
 
   -- the file that is made where nothing has the name
   abbrev new_file : ℕ → Object
-  new_file mode = object_with p.label (attr_of p (masked mode p.umask)) (body.File [])
+  new_file mode = object_with p.label (attr_of p (masked_permissions mode p.umask)) (body.File [])
 
   -- what the row says of it
   making : (path : PathValue) → (Given HasNames → are_names path ≡ true) → (mode : ℕ) (dir : Oid) (name : Name) (place : Place)
@@ -161,7 +161,7 @@ module _ (Known : Check → Type 0) (Not : Bool → Type 0) (Given : Premise →
 
   -- a piece goes into a file, unless it is empty
   writing_kinds : (fd : ℕ) (f : Opened) (bytes : List ℕ) → IsOpen s p fd f → Known (mac_write s p f.description.object Handle)
-      → is_stream (open_object s f).kind ≡ false → OfKinds Known Not Given s who p (writing s f bytes)
+      → is_stream (open_object s f).kind ≡ false → OfKinds Known Not Given s who p (put_in_file s f bytes)
   writing_kinds fd f bytes open_is written no_stream =
       let old : Attr = (open_object s f).attr in (
         refl,

@@ -9,24 +9,25 @@ use Rattle.std.proofs.lemmas.Bool.{and_parts, or_cases, or_parts, true≢false, 
 use Rattle.lab_lattice.specs.Label.{Label}
 use Rattle.kern_model.specs.declared.calls.Ending.{Ending}
 use Rattle.kern_model.specs.declared.numbers.Pid.{Pid}
-use Rattle.kern_model.specs.Descriptors.{Descriptor, closing}
+use Rattle.kern_model.specs.Descriptors.{Descriptor, changes_of_close}
 use Rattle.kern_model.specs.Isolation.{low, Kept}
 use Rattle.kern_model.specs.Keys.{pid_cmp, same_pid, is_pid}
 use Rattle.kern_model.specs.Maps.{where_key}
 use Rattle.kern_model.specs.ProcessRows.{process_after_end, changes_after_end, ending_of}
-use Rattle.kern_model.specs.State.{State, Process, Change, SetProcess, DropProcess, changed, changed_by}
+use Rattle.kern_model.specs.State.{State, Process, Change, SetProcess, DropProcess, apply_change, apply_changes}
 use Rattle.kern_model.specs.Valid.{IsValid, IsThere, IsValidEnd, IsValidProcess}
 use Rattle.kern_model.proofs.KeyLaws.{pid_cmp_total, pid_cmp_exact}
 use Rattle.kern_model.proofs.MapLemmas.{each-entries, each-insert, each-remove, get-insert_same, never_some, same_key, some_same}
 use Rattle.iso_laws.proofs.AllLemmas.{all-append, all_each, all_when}
 use Rattle.iso_laws.proofs.Changes.{kept_procs, KeptProcess, kept_of, kept_process}
 use Rattle.iso_laws.proofs.ClosingLemmas.{each_closing}
-use Rattle.iso_laws.proofs.Part.{part_by_number, low_pid, as_is, part_changes, part_changes-append, sees_first, hides_first, part_of_low, part_of_high, change_label, changed_by-append}
+use Rattle.iso_laws.proofs.Part.{part_by_number, low_pid, as_is, part_changes, part_changes-append, sees_first, hides_first, part_of_low, part_of_high, change_label}
 use Rattle.kern_model.proofs.Selections.{list_after, flat_map-select, get-remove_other}
 use Rattle.iso_laws.proofs.files.Closing.{Preserves, preserved_over, part_changes-flat_map, closing_low, closing_hidden, kept_closed}
 use Rattle.iso_laws.proofs.files.Closed.{after_closing, valid_closed}
 use Rattle.std.proofs.lemmas.Cmp.{eq_by_cmp_equiv}
 use Rattle.iso_laws.proofs.ValidIn.{IsValidAlone}
+use Rattle.kern_model.proofs.StateLemmas.{apply_changes-append}
 
 pub is_pid_some : (a : Pid) (o : Option Pid) → is_pid a o ≡ true → o ≡ Some a
 is_pid_some a None h = absurd (true≢false (sym h))
@@ -74,8 +75,8 @@ module _ (l : Label) (s : State) (kept : Kept l s) (valid : IsValid s) (who : Pi
       let goes : Descriptor → Bool = is_held_by who in
       let left : List Change = flat_map (changes_after_end who p how) (table.entries s.procs) in
       (λ i. DropProcess who ∷ (closing_low l s kept valid goes i ++ survivors_low i))
-      ∙ ap (λ cs. DropProcess who ∷ cs) (sym (part_changes-append l s.top (closing s goes) left))
-      ∙ sym (sees_first l s.top (DropProcess who) (closing s goes ++ left) is_low)
+      ∙ ap (λ cs. DropProcess who ∷ cs) (sym (part_changes-append l s.top (changes_of_close s goes) left))
+      ∙ sym (sees_first l s.top (DropProcess who) (changes_of_close s goes ++ left) is_low)
 
   -- the part does not see that another process ends
   pub ending_hidden : table.get s.procs who ≡ Some p → low l who.label ≡ false → part_changes l s.top (ending_of s who p how) ≡ []
@@ -92,12 +93,12 @@ module _ (l : Label) (s : State) (kept : Kept l s) (valid : IsValid s) (who : Pi
         | inl child ↦ sym (kept.parents q who x e (is_pid_some who x.parent child)) ∙ high
         | inr parent ↦ kept.parents who q p is (is_pid_some q p.parent parent) ∙ high
       ]))) in
-      hides_first l s.top (DropProcess who) (closing s goes ++ left) high
-      ∙ part_changes-append l s.top (closing s goes) left
+      hides_first l s.top (DropProcess who) (changes_of_close s goes ++ left) high
+      ∙ part_changes-append l s.top (changes_of_close s goes) left
       ∙ ap (λ cs. cs ++ part_changes l s.top left) (closing_hidden l s kept valid goes (λ d _ gone. ap (λ (q : Pid). low l q.label) (same_key pid_cmp_exact d.who who gone) ∙ high))
       ∙ none
 
-  kept_gone : Kept l (changed s (DropProcess who))
+  kept_gone : Kept l (apply_change s (DropProcess who))
   kept_gone = kept_procs l s kept (table.remove s.procs who) (each-remove pid_cmp_total pid_cmp_exact (KeptProcess l) s.procs (kept_of l s kept) who)
 
   -- what a process is once another one ended is on its side
@@ -116,45 +117,45 @@ module _ (l : Label) (s : State) (kept : Kept l s) (valid : IsValid s) (who : Pi
       }
 
   -- a kept state stays kept
-  pub kept_ended : table.get s.procs who ≡ Some p → Kept l (changed_by s (ending_of s who p how))
+  pub kept_ended : table.get s.procs who ≡ Some p → Kept l (apply_changes s (ending_of s who p how))
   unfolding ending_of
   kept_ended is =
       let goes : Descriptor → Bool = is_held_by who in
       let left : List Change = flat_map (changes_after_end who p how) (table.entries s.procs) in
-      let gone : State = changed s (DropProcess who) in
-      subst (Kept l) (sym (changed_by-append gone (closing s goes) left))
+      let gone : State = apply_change s (DropProcess who) in
+      subst (Kept l) (sym (apply_changes-append gone (changes_of_close s goes) left))
       (preserved_over (Kept l) left
       (all_each (λ (e : Pid × Process). KeptProcess l e.0 (process_after_end who p how e.0 e.1)) (Preserves (Kept l)) (changes_after_end who p how)
       (λ e h. all_when (Preserves (Kept l)) (is_left who p e) (SetProcess e.0 (process_after_end who p how e.0 e.1) ∷ []) (λ _. (λ u kept_u. kept_process l u kept_u e.0 _ h, tt))) (table.entries s.procs)
       (each-entries pid_cmp_total pid_cmp_exact (λ (q : Pid) (x : Process). KeptProcess l q (process_after_end who p how q x)) s.procs (kept_left is)))
-      (changed_by gone (closing s goes)) (kept_closed l s kept valid goes gone kept_gone refl))
+      (apply_changes gone (changes_of_close s goes)) (kept_closed l s kept valid goes gone kept_gone refl))
 
 -- ---- a valid state stays valid
 -- processes may be set before descriptors close, or after
-closes_beside : (m : FinMap pid_cmp Process) (cs : List Change) → AllByRecursion (λ (c : Change). (t : State) → changed (record t { procs = m }) c ≡ record (changed t c) { procs = m }) cs → (t : State) → changed_by (record t { procs = m }) cs ≡ record (changed_by t cs) { procs = m }
+closes_beside : (m : FinMap pid_cmp Process) (cs : List Change) → AllByRecursion (λ (c : Change). (t : State) → apply_change (record t { procs = m }) c ≡ record (apply_change t c) { procs = m }) cs → (t : State) → apply_changes (record t { procs = m }) cs ≡ record (apply_changes t cs) { procs = m }
 closes_beside m [] h t = refl
-closes_beside m (c ∷ cs) h t = ap (λ (u : State). changed_by u cs) (h.0 t) ∙ closes_beside m cs h.1 (changed t c)
+closes_beside m (c ∷ cs) h t = ap (λ (u : State). apply_changes u cs) (h.0 t) ∙ closes_beside m cs h.1 (apply_change t c)
 
 -- changes of processes are the same in a state that has other descriptions and objects
-sets_beside : (s t : State) (cs : List Change) → AllByRecursion (λ (c : Change). (m : FinMap pid_cmp Process) → changed (record t { procs = m }) c ≡ record t { procs = (changed (record s { procs = m }) c).procs }) cs
-    → ((m : FinMap pid_cmp Process) → AllByRecursion (λ (c : Change). changed (record s { procs = m }) c ≡ record s { procs = (changed (record s { procs = m }) c).procs }) cs) → (m : FinMap pid_cmp Process) → changed_by (record t { procs = m }) cs ≡ record t { procs = (changed_by (record s { procs = m }) cs).procs }
+sets_beside : (s t : State) (cs : List Change) → AllByRecursion (λ (c : Change). (m : FinMap pid_cmp Process) → apply_change (record t { procs = m }) c ≡ record t { procs = (apply_change (record s { procs = m }) c).procs }) cs
+    → ((m : FinMap pid_cmp Process) → AllByRecursion (λ (c : Change). apply_change (record s { procs = m }) c ≡ record s { procs = (apply_change (record s { procs = m }) c).procs }) cs) → (m : FinMap pid_cmp Process) → apply_changes (record t { procs = m }) cs ≡ record t { procs = (apply_changes (record s { procs = m }) cs).procs }
 sets_beside s t [] h own m = refl
 sets_beside s t (c ∷ cs) h own m =
-    let next : FinMap pid_cmp Process = (changed (record s { procs = m }) c).procs in
-    ap (λ (u : State). changed_by u cs) (h.0 m)
+    let next : FinMap pid_cmp Process = (apply_change (record s { procs = m }) c).procs in
+    ap (λ (u : State). apply_changes u cs) (h.0 m)
     ∙ sets_beside s t cs h.1 (λ n. (own n).1) next
-    ∙ ap (λ (u : State). record t { procs = (changed_by u cs).procs }) (sym (own m).0)
+    ∙ ap (λ (u : State). record t { procs = (apply_changes u cs).procs }) (sym (own m).0)
 
 module _ (s : State) (valid : IsValid s) (who : Pid) (p : Process) (is : table.get s.procs who ≡ Some p) (how : Ending) where
   abbrev left : List Change
   left = flat_map (changes_after_end who p how) (table.entries s.procs)
 
   abbrev gone : State
-  gone = changed s (DropProcess who)
+  gone = apply_change s (DropProcess who)
 
   -- the processes once it ended
   abbrev living : FinMap pid_cmp Process
-  living = (changed_by gone left).procs
+  living = (apply_changes gone left).procs
 
   -- what holds of setting each process that another one leaves holds of each change of them
   each_survivor : (P : Change → Type 0) → ((q : Pid) (x : Process) → table.get s.procs q ≡ Some x → eq_by_cmp pid_cmp q who ≡ false → P (SetProcess q (process_after_end who p how q x))) → AllByRecursion P left
@@ -164,15 +165,15 @@ module _ (s : State) (valid : IsValid s) (who : Pid) (p : Process) (is : table.g
       (each-entries pid_cmp_total pid_cmp_exact (λ (q : Pid) (x : Process). is_left who p (q, x) ≡ true → P (SetProcess q (process_after_end who p how q x))) s.procs
       (λ q x e t. h q x e (false_from_ne_true _ (λ same. true≢false (sym (and_parts _ _ t).0 ∙ ap not same)))))
 
-  ended_is : changed_by s (ending_of s who p how) ≡ after_closing s valid (is_held_by who) living
+  ended_is : apply_changes s (ending_of s who p how) ≡ after_closing s valid (is_held_by who) living
   unfolding ending_of
   ended_is =
       let goes : Descriptor → Bool = is_held_by who in
-      let beside : (m : FinMap pid_cmp Process) → changed_by (record s { procs = m }) (closing s goes) ≡ record (changed_by s (closing s goes)) { procs = m } =
-      λ m. closes_beside m (closing s goes) (each_closing s (λ c. (t : State) → changed (record t { procs = m }) c ≡ record (changed t c) { procs = m }) (λ did t. refl) (λ did d _ t. refl) goes) s in
-      changed_by-append gone (closing s goes) left
-      ∙ ap (λ (t : State). changed_by t left) (beside (table.remove s.procs who))
-      ∙ sets_beside s (changed_by s (closing s goes)) left (each_survivor _ (λ q x _ _ m. refl)) (λ m. each_survivor _ (λ q x _ _. refl)) (table.remove s.procs who)
+      let beside : (m : FinMap pid_cmp Process) → apply_changes (record s { procs = m }) (changes_of_close s goes) ≡ record (apply_changes s (changes_of_close s goes)) { procs = m } =
+      λ m. closes_beside m (changes_of_close s goes) (each_closing s (λ c. (t : State) → apply_change (record t { procs = m }) c ≡ record (apply_change t c) { procs = m }) (λ did t. refl) (λ did d _ t. refl) goes) s in
+      apply_changes-append gone (changes_of_close s goes) left
+      ∙ ap (λ (t : State). apply_changes t left) (beside (table.remove s.procs who))
+      ∙ sets_beside s (apply_changes s (changes_of_close s goes)) left (each_survivor _ (λ q x _ _ m. refl)) (λ m. each_survivor _ (λ q x _ _. refl)) (table.remove s.procs who)
       ∙ sym (beside living)
 
   -- each process that lives was one of the others
@@ -192,9 +193,9 @@ module _ (s : State) (valid : IsValid s) (who : Pid) (p : Process) (is : table.g
     IsLeftAt u = table.get u.procs q ≡ Some (process_after_end who p how q x)
 
     -- setting a process that is left
-    set_left : (u : State) (r : Pid) (y : Process) → table.get s.procs r ≡ Some y → (eq_by_cmp pid_cmp q r ≡ false → IsLeftAt u) → IsLeftAt (changed u (SetProcess r (process_after_end who p how r y)))
+    set_left : (u : State) (r : Pid) (y : Process) → table.get s.procs r ≡ Some y → (eq_by_cmp pid_cmp q r ≡ false → IsLeftAt u) → IsLeftAt (apply_change u (SetProcess r (process_after_end who p how r y)))
     set_left u r y e before =
-        elim (eq_by_cmp pid_cmp q r) as (λ b. eq_by_cmp pid_cmp q r ≡ b → IsLeftAt (changed u (SetProcess r (process_after_end who p how r y)))) [
+        elim (eq_by_cmp pid_cmp q r) as (λ b. eq_by_cmp pid_cmp q r ≡ b → IsLeftAt (apply_change u (SetProcess r (process_after_end who p how r y)))) [
           | true ↦ λ t.
               let same : q ≡ r = same_key pid_cmp_exact q r t in
               get-insert pid_cmp_total u.procs r (process_after_end who p how r y) q ∙ ap (λ b. cond b (Some (process_after_end who p how r y)) (table.get u.procs q)) t
@@ -203,22 +204,22 @@ module _ (s : State) (valid : IsValid s) (who : Pid) (p : Process) (is : table.g
         ] refl
 
     -- setting the processes of a list that are left
-    sets_preserve : (es : List (Pid × Process)) → AllByRecursion (λ (e : Pid × Process). table.get s.procs e.0 ≡ Some e.1) es → (u : State) → IsLeftAt u → IsLeftAt (changed_by u (flat_map (changes_after_end who p how) es))
+    sets_preserve : (es : List (Pid × Process)) → AllByRecursion (λ (e : Pid × Process). table.get s.procs e.0 ≡ Some e.1) es → (u : State) → IsLeftAt u → IsLeftAt (apply_changes u (flat_map (changes_after_end who p how) es))
     sets_preserve es h =
         preserved_over IsLeftAt (flat_map (changes_after_end who p how) es)
         (all_each (λ (e : Pid × Process). table.get s.procs e.0 ≡ Some e.1) (Preserves IsLeftAt) (changes_after_end who p how)
         (λ e e_is. all_when (Preserves IsLeftAt) (is_left who p e) (SetProcess e.0 (process_after_end who p how e.0 e.1) ∷ []) (λ _. (λ u now. set_left u e.0 e.1 e_is (λ _. now), tt))) es h)
 
-    listed_left : is_left who p (q, x) ≡ true → (es : List (Pid × Process)) → AllByRecursion (λ (e : Pid × Process). table.get s.procs e.0 ≡ Some e.1) es → find pid_cmp q es ≡ Some x → (u : State) → IsLeftAt (changed_by u (flat_map (changes_after_end who p how) es))
+    listed_left : is_left who p (q, x) ≡ true → (es : List (Pid × Process)) → AllByRecursion (λ (e : Pid × Process). table.get s.procs e.0 ≡ Some e.1) es → find pid_cmp q es ≡ Some x → (u : State) → IsLeftAt (apply_changes u (flat_map (changes_after_end who p how) es))
     listed_left changes [] h found u = absurd (never_some None x refl found)
     listed_left changes (e ∷ es) h found u =
-        let next : State = changed_by u (changes_after_end who p how e) in
-        subst IsLeftAt (sym (changed_by-append u (changes_after_end who p how e) (flat_map (changes_after_end who p how) es)))
-        (elim (eq_by_cmp pid_cmp q e.0) as (λ b. eq_by_cmp pid_cmp q e.0 ≡ b → cond b (Some e.1) (find pid_cmp q es) ≡ Some x → IsLeftAt (changed_by next (flat_map (changes_after_end who p how) es))) [
+        let next : State = apply_changes u (changes_after_end who p how e) in
+        subst IsLeftAt (sym (apply_changes-append u (changes_after_end who p how e) (flat_map (changes_after_end who p how) es)))
+        (elim (eq_by_cmp pid_cmp q e.0) as (λ b. eq_by_cmp pid_cmp q e.0 ≡ b → cond b (Some e.1) (find pid_cmp q es) ≡ Some x → IsLeftAt (apply_changes next (flat_map (changes_after_end who p how) es))) [
           | true ↦ λ t at.
               let same : (q, x) ≡ e = λ i. (same_key pid_cmp_exact q e.0 t i, some_same x e.1 (sym at) i) in
               let set : changes_after_end who p how e ≡ SetProcess q (process_after_end who p how q x) ∷ [] = ap (changes_after_end who p how) (sym same) ∙ ap (λ b. cond b (SetProcess q (process_after_end who p how q x) ∷ []) []) changes in
-              sets_preserve es h.1 next (subst (λ cs. IsLeftAt (changed_by u cs)) (sym set) (get-insert_same pid_cmp_total u.procs q (process_after_end who p how q x)))
+              sets_preserve es h.1 next (subst (λ cs. IsLeftAt (apply_changes u cs)) (sym set) (get-insert_same pid_cmp_total u.procs q (process_after_end who p how q x)))
           | false ↦ λ _ at. listed_left changes es h.1 at next
         ] refl found)
 
@@ -233,10 +234,10 @@ module _ (s : State) (valid : IsValid s) (who : Pid) (p : Process) (is : table.g
         λ i. record x { parent = cond (parts.0 i) None x.parent; ended = cond (parts.1 i) (x.ended ++ (who, how) ∷ []) x.ended }
 
     -- each other process lives, as the end leaves it
-    other_lives : IsLeftAt (changed_by gone left)
+    other_lives : IsLeftAt (apply_changes gone left)
     other_lives =
         let there : table.get (table.remove s.procs who) q ≡ Some x = get-remove_other pid_cmp_total s.procs who q other ∙ q_is in
-        elim (is_left who p (q, x)) as (λ b. is_left who p (q, x) ≡ b → IsLeftAt (changed_by gone left)) [
+        elim (is_left who p (q, x)) as (λ b. is_left who p (q, x) ≡ b → IsLeftAt (apply_changes gone left)) [
           | true ↦ λ changes. listed_left changes (table.entries s.procs) listed (sym (get-entries s.procs q) ∙ q_is) gone
           | false ↦ λ same. sets_preserve (table.entries s.procs) listed gone (there ∙ ap (λ (y : Process). Some y) (sym (unchanged same)))
         ] refl
@@ -279,7 +280,7 @@ module _ (s : State) (valid : IsValid s) (who : Pid) (p : Process) (is : table.g
       ] refl
 
   -- a state stays valid where a process ends
-  pub valid_ended : IsValid (changed_by s (ending_of s who p how))
+  pub valid_ended : IsValid (apply_changes s (ending_of s who p how))
   valid_ended =
       subst IsValid (sym ended_is)
       (valid_closed s valid (is_held_by who) living

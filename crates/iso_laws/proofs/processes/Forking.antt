@@ -10,7 +10,7 @@ use Rattle.kern_model.specs.declared.numbers.Did.{Did}
 use Rattle.kern_model.specs.declared.numbers.Pid.{Pid}
 use Rattle.kern_model.specs.Keys.{pid_cmp}
 use Rattle.kern_model.specs.ProcessRows.{child_of}
-use Rattle.kern_model.specs.State.{State, Process, SetProcess, DrawProcess, changed_by, drawn, next_process}
+use Rattle.kern_model.specs.State.{State, Process, SetProcess, DrawProcess, apply_changes, last_drawn, next_process}
 use Rattle.kern_model.specs.Valid.{IsValid, IsThere, IsHeld, IsValidProcess}
 use Rattle.kern_model.proofs.KeyLaws.{pid_cmp_total, pid_cmp_exact}
 use Rattle.kern_model.proofs.MapLemmas.{each-insert, get-insert_kept, some_same}
@@ -36,7 +36,7 @@ module _ (s : State) (valid : IsValid s) (who : Pid) (p : Process) (is : map.get
   more_procs = map.insert s.procs child (child_of who p)
 
   abbrev more_numbers : FinMap label_cmp ℕ
-  more_numbers = map.insert s.process_numbers p.label (drawn s.process_numbers p.label + 1)
+  more_numbers = map.insert s.process_numbers p.label (last_drawn s.process_numbers p.label + 1)
 
   abbrev forked_state : State
   forked_state = with_open s s.objects more_procs s.descriptions more_numbers s.description_numbers
@@ -45,7 +45,7 @@ module _ (s : State) (valid : IsValid s) (who : Pid) (p : Process) (is : map.get
   forked_held = held_in s forked_state refl (get-insert_kept pid_cmp_total pid_cmp_exact s.procs child (child_of who p) next_process_absent)
 
   -- a state stays valid where a process is forked
-  pub valid_forked : drawn s.process_numbers p.label < MAX_PROCS → IsValid (changed_by s (DrawProcess p.label (drawn s.process_numbers p.label + 1) ∷ SetProcess child (child_of who p) ∷ []))
+  pub valid_forked : last_drawn s.process_numbers p.label < MAX_PROCS → IsValid (apply_changes s (DrawProcess p.label (last_drawn s.process_numbers p.label + 1) ∷ SetProcess child (child_of who p) ∷ []))
   valid_forked left =
       let own : IsValidProcess s who p = valid.procs who p is in
       let still : (q : Pid) → IsThere s.procs q → IsThere more_procs q = still_there pid_cmp_total s.procs child (child_of who p) in
@@ -68,6 +68,6 @@ module _ (s : State) (valid : IsValid s) (who : Pid) (p : Process) (is : map.get
       (still_valid_description s valid more_procs s.descriptions more_numbers s.description_numbers (λ did d old. old.drawn_already) forked_held)
       (record {
         below = still_below s.process_numbers p.label s.top own.below valid.process_numbers.below;
-        few = each_set_at label_cmp_total label_cmp_exact (λ (l : Label) (n : ℕ). n ≤ MAX_PROCS) 0 s.process_numbers p.label (drawn s.process_numbers p.label + 1) (omega (arith, left)) valid.process_numbers.few;
+        few = each_set_at label_cmp_total label_cmp_exact (λ (l : Label) (n : ℕ). n ≤ MAX_PROCS) 0 s.process_numbers p.label (last_drawn s.process_numbers p.label + 1) (omega (arith, left)) valid.process_numbers.few;
       })
       valid.description_numbers

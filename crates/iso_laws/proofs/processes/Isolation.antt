@@ -19,10 +19,10 @@ use Rattle.kern_model.specs.declared.numbers.Pid.{Pid}
 use Rattle.kern_model.specs.Isolation.{low, Kept}
 use Rattle.kern_model.specs.Keys.{is_pid}
 use Rattle.kern_model.specs.Maps.{where_key}
-use Rattle.kern_model.specs.ProcessRows.{child_of, fork_row, has_child, take_ended, wait_row, exit_row, kill_with, signalled, send, kill_row, umask_row, exec_row, take_on, getpid_row, getppid_row, getids_row, setuid_row, setgid_row, cap_get_proc_row, cap_set_proc_row, mac_get_proc_row, mac_set_proc_row, give_child}
+use Rattle.kern_model.specs.ProcessRows.{child_of, fork_row, has_child, take_ended, wait_row, exit_row, kill_with, signal_row, send, kill_row, umask_row, exec_row, take_on, getpid_row, getppid_row, getids_row, setuid_row, setgid_row, cap_get_proc_row, cap_set_proc_row, mac_get_proc_row, mac_set_proc_row, give_child}
 use Rattle.kern_model.specs.Row.{Row}
 use Rattle.kern_model.specs.Rules.{kill_rule, mac_write_process}
-use Rattle.kern_model.specs.State.{State, Process, SetProcess, DrawProcess, drawn, next_process, object_at}
+use Rattle.kern_model.specs.State.{State, Process, SetProcess, DrawProcess, last_drawn, next_process, object_at}
 use Rattle.kern_model.specs.Step.{subject}
 use Rattle.kern_model.proofs.KeyLaws.{pid_cmp_total, pid_cmp_exact}
 use Rattle.kern_model.specs.Valid.{IsValid}
@@ -97,7 +97,7 @@ module _ (l : Label) (s : State) (kept : Kept l s) (valid : IsValid s) (who : Pi
 
   pub fork_low : SameInPart l s who p (fork_row s who p) (fork_row part_s who p)
   fork_low =
-      let n : ℕ = drawn s.process_numbers p.label in
+      let n : ℕ = last_drawn s.process_numbers p.label in
       let same_number = processes_drawn_low l s p.label is_low in
       in_part_refuse l s who p errno.EAGAIN _ _ _ _ (ap (nat_le MAX_PROCS) same_number)
       (λ _.
@@ -121,7 +121,7 @@ module _ (l : Label) (s : State) (kept : Kept l s) (valid : IsValid s) (who : Pi
   exit_low code = low_end who p (ending.Exit code) (kept.procs who p is ∙ is_low)
 
   signalled_low : (target : Pid) (t : Process) → low l target.label ≡ true → (sig : Signal)
-      → SameInPart l s who p (signalled s target t sig) (signalled part_s target t sig)
+      → SameInPart l s who p (signal_row s target t sig) (signal_row part_s target t sig)
   signalled_low target t h signal.Zero = itself refl
   signalled_low target t h signal.Term = low_end target t ending.Term h
   signalled_low target t h signal.Kill = low_end target t ending.Kill h

@@ -12,7 +12,7 @@ use Rattle.kern_model.specs.declared.calls.Signal.TheVariants as signal
 use Rattle.kern_model.specs.declared.checks.Check.{Check}
 use Rattle.kern_model.specs.declared.numbers.Pid.{Pid}
 use Rattle.kern_model.specs.Kinds.{is_permission}
-use Rattle.kern_model.specs.ProcessRows.{fork_row, take_ended, wait_row, exit_row, signalled, send, kill_row, umask_row, exec_row, take_on, getpid_row, getppid_row, getids_row, setuid_row, setgid_row, cap_get_proc_row, cap_set_proc_row, mac_get_proc_row, mac_set_proc_row}
+use Rattle.kern_model.specs.ProcessRows.{fork_row, take_ended, wait_row, exit_row, signal_row, send, kill_row, umask_row, exec_row, take_on, getpid_row, getppid_row, getids_row, setuid_row, setgid_row, cap_get_proc_row, cap_set_proc_row, mac_get_proc_row, mac_set_proc_row}
 use Rattle.kern_model.specs.Row.{Row, need_if}
 use Rattle.kern_model.specs.Rules.{mac_write_process}
 use Rattle.kern_model.specs.State.{State, Process}
@@ -42,7 +42,7 @@ module _ (Known : Check → Type 0) (Not : Bool → Type 0) (Given : Premise →
   exit_kinds is code = EndProcess who p (ending.Exit code) is (inl refl)
 
   signalled_kinds : (target : Pid) (t : Process) → map.get s.procs target ≡ Some t → Known (mac_write_process p target target.label) → (sig : Signal)
-      → OfKinds Known Not Given s who p (signalled s target t sig)
+      → OfKinds Known Not Given s who p (signal_row s target t sig)
   signalled_kinds target t at written signal.Zero = NoChange
   signalled_kinds target t at written signal.Term = EndProcess target t ending.Term at (inr written)
   signalled_kinds target t at written signal.Kill = EndProcess target t ending.Kill at (inr written)

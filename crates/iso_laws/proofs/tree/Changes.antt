@@ -6,7 +6,7 @@ use Rattle.std.specs.FinMap as map
 use Rattle.std.specs.FinMap.{FinMap}
 use Rattle.std.proofs.Common.{sym, ◌∙◌, ap, subst, arith, inl, inr}
 use Rattle.std.proofs.lemmas.Bool.{true≢false, and_parts, and_from, ltb-true, false_from_ne_true, not-true}
-use Rattle.cap_bits.specs.State.{no_flags}
+use Rattle.cap_bits.specs.FileCaps.{no_file_caps}
 use Rattle.fs_path.specs.Name.{Name, is_name}
 use Rattle.lab_lattice.specs.Label.{Label, dominates, label_cmp}
 use Rattle.lab_lattice.proofs.Labels.{label_cmp_total, label_cmp_exact}
@@ -19,7 +19,7 @@ use Rattle.kern_model.specs.Entries.{is_empty, is_held, is_removed, link_count}
 use Rattle.kern_model.specs.Keys.{Spot, oid_cmp, spot_cmp, same_oid}
 use Rattle.kern_model.specs.Kinds.{is_dir, is_mode}
 use Rattle.kern_model.specs.Maps.{any_entry}
-use Rattle.kern_model.specs.State.{State, Process, DropEntry, SetEntry, changed, changed_by, drawn, next_object, look, object_at, stub_object, root}
+use Rattle.kern_model.specs.State.{State, Process, DropEntry, SetEntry, apply_change, apply_changes, last_drawn, next_object, look, object_at, stub_object, root}
 use Rattle.kern_model.specs.Valid.{IsValid, IsDir, IsDrawn, AreFew, IsReached, IsValidObject, IsValidEntry, leads}
 use Rattle.kern_model.proofs.KeyLaws.{oid_cmp_total, oid_cmp_exact, spot_cmp_total, spot_cmp_exact}
 use Rattle.kern_model.proofs.MapLemmas.{same_key, some_same, never_some, each-remove, each-insert, get-insert_same, get-insert_kept, get_or-found, count_entries-none}
@@ -56,7 +56,7 @@ module _ (s : State) (objects : FinMap oid_cmp Object) (entries : FinMap spot_cm
   with_tree = record s { objects = objects; entries = entries; object_numbers = object_numbers }
 
   -- an object stays valid where its names are few and, as a directory, is reached or is removed and empty
-  pub tree_object : (id : Oid) (o : Object) → IsValidObject s id o → IsDrawn id.n (drawn object_numbers id.label) → (is_dir o.kind ≡ false → link_count with_tree id ≤ MAX_LINKS)
+  pub tree_object : (id : Oid) (o : Object) → IsValidObject s id o → IsDrawn id.n (last_drawn object_numbers id.label) → (is_dir o.kind ≡ false → link_count with_tree id ≤ MAX_LINKS)
       → (o.kind ≡ kind.Dir → IsReached with_tree id ⊎ ((is_removed with_tree id ≡ true) × (is_empty with_tree id ≡ true))) → IsValidObject with_tree id o
   tree_object id o valid drawn_already few_names reached =
       object_in s with_tree refl id o valid.below drawn_already (content_of s id o valid) valid.fifo_bytes few_names reached
@@ -174,7 +174,7 @@ module _ (s : State) (valid : IsValid s) (spot : Spot) (id : Oid) (is : map.get 
   fewer_names : (q : Oid) → link_count next_state q ≤ link_count s q
   fewer_names q = count_remove spot_cmp_total spot_cmp_exact (λ (at : Spot) (to : Oid). same_oid to q) spot s.entries
 
-  pub valid_drop : IsValid (changed s (DropEntry spot))
+  pub valid_drop : IsValid (apply_change s (DropEntry spot))
   valid_drop = valid_tree s s.objects left s.object_numbers (λ q o e. e) valid
       (λ q o e. let old = valid.objects q o e in
       tree_object s s.objects left s.object_numbers q o old old.drawn_already (λ no_dir. omega (arith, fewer_names q, old.few_names no_dir)) (next_reached q o e))
@@ -264,7 +264,7 @@ module _ (s : State) (valid : IsValid s) (dir : Oid) (name : Name) (id : Oid) (d
             (λ q_dir. reached_still s valid s.objects s.object_numbers dir name id dir_is free not_removed q x e q_dir other)
       ] refl
 
-  pub valid_link : (o.kind ≡ kind.Pipe → ⊥) → link_count s id + 1 ≤ MAX_LINKS → dominates o.label dir_is.object.label ≡ true → is_name name ≡ true → IsValid (changed s (SetEntry (dir, name) id))
+  pub valid_link : (o.kind ≡ kind.Pipe → ⊥) → link_count s id + 1 ≤ MAX_LINKS → dominates o.label dir_is.object.label ≡ true → is_name name ≡ true → IsValid (apply_change s (SetEntry (dir, name) id))
   valid_link no_pipe few order named =
       let entries = added s valid s.objects s.object_numbers dir name id dir_is free not_removed in
       valid_tree s s.objects entries s.object_numbers (λ q x e. e) valid (linked_object few)
@@ -289,7 +289,7 @@ module _ (s : State) (valid : IsValid s) (dir : Oid) (name : Name) (id : Oid) (d
 pub record IsFresh (p : Process) (o : Object) : Type 0 where
   pub label : o.label ≡ p.label
   pub mode : is_mode o.attr.mode ≡ true
-  pub caps : o.attr.caps ≡ no_flags
+  pub caps : o.attr.caps ≡ no_file_caps
   pub bytes : o.bytes ≡ []
   pub no_pipe : o.kind ≡ kind.Pipe → ⊥
 
@@ -301,7 +301,7 @@ module _ (s : State) (valid : IsValid s) (p : Process) (dir : Oid) (name : Name)
   more_objects = map.insert s.objects new o
 
   abbrev more_numbers : FinMap label_cmp ℕ
-  more_numbers = map.insert s.object_numbers p.label (drawn s.object_numbers p.label + 1)
+  more_numbers = map.insert s.object_numbers p.label (last_drawn s.object_numbers p.label + 1)
 
   abbrev entries_now : FinMap spot_cmp Oid
   entries_now = added s valid more_objects more_numbers dir name new dir_is free not_removed
@@ -369,8 +369,8 @@ module _ (s : State) (valid : IsValid s) (p : Process) (dir : Oid) (name : Name)
   few_numbers : dominates s.top p.label ≡ true → has_object_number s p.label ≡ true → AreFew s.top more_numbers MAX_OBJECTS
   few_numbers below left = record {
     below = still_below s.object_numbers p.label s.top below valid.object_numbers.below;
-    few = each_set_at label_cmp_total label_cmp_exact (λ (l : Label) (n : ℕ). n ≤ MAX_OBJECTS) 0 s.object_numbers p.label (drawn s.object_numbers p.label + 1) (omega (arith, ltb-true (drawn s.object_numbers p.label) MAX_OBJECTS left)) valid.object_numbers.few;
+    few = each_set_at label_cmp_total label_cmp_exact (λ (l : Label) (n : ℕ). n ≤ MAX_OBJECTS) 0 s.object_numbers p.label (last_drawn s.object_numbers p.label + 1) (omega (arith, ltb-true (last_drawn s.object_numbers p.label) MAX_OBJECTS left)) valid.object_numbers.few;
   }
 
-  pub valid_made : dominates s.top p.label ≡ true → has_object_number s p.label ≡ true → dominates p.label dir_is.object.label ≡ true → is_name name ≡ true → IsValid (changed_by s (creation s p.label dir name o))
+  pub valid_made : dominates s.top p.label ≡ true → has_object_number s p.label ≡ true → dominates p.label dir_is.object.label ≡ true → is_name name ≡ true → IsValid (apply_changes s (creation s p.label dir name o))
   valid_made below left order named = valid_tree s more_objects entries_now more_numbers still valid (made_object below) (made_entry order named) one_made (few_numbers below left)

@@ -18,7 +18,7 @@ use Rattle.kern_model.specs.declared.limits.TheConstants.{MAX_LINKS, MAX_OBJECTS
 use Rattle.kern_model.specs.declared.objects.Body.{Body}
 use Rattle.kern_model.specs.declared.objects.Body.TheVariants as body
 use Rattle.kern_model.specs.declared.objects.Object.{Object}
-use Rattle.kern_model.specs.Create.{drawing, creation, creation_after, enter_in, write_directory, has_object_number}
+use Rattle.kern_model.specs.Create.{object_addition, creation, creation_after, enter_in, write_directory, has_object_number}
 use Rattle.kern_model.specs.Entries.{names_in}
 use Rattle.kern_model.specs.Isolation.{low, Kept}
 use Rattle.kern_model.specs.Keys.{Spot, same_oid}
@@ -104,7 +104,7 @@ module _ (l : Label) (s : State) (kept : Kept l s) (valid : IsValid s) (who : Pi
   pub made_in_part : (dir : Oid) (name : Name) (o : Object) → low l dir.label ≡ true → creation part_s p.label dir name o ≡ part_changes l s.top (creation s p.label dir name o)
   made_in_part dir name o h =
       ap (λ last. creation_after last p.label dir name o) (drawn_low l s p.label is_low)
-      ∙ ap (λ (q : Oid). drawing s p.label o ++ SetEntry (dir, name) q ∷ []) (sym (shown_oid_low l s (next_object s p.label) is_low))
+      ∙ ap (λ (q : Oid). object_addition s p.label o ++ SetEntry (dir, name) q ∷ []) (sym (shown_oid_low l s (next_object s p.label) is_low))
       ∙ sym (part_of_low l s.top (creation s p.label dir name o) (is_low, (is_low, (h, tt))))
 
   pub has_object_number_low : has_object_number part_s p.label ≡ has_object_number s p.label

@@ -14,7 +14,7 @@ use Rattle.kern_model.specs.declared.objects.Object.{Object}
 use Rattle.kern_model.specs.Entries.{is_empty, is_held, is_removed, link_count}
 use Rattle.kern_model.specs.Keys.{Spot, oid_cmp, spot_cmp, same_oid}
 use Rattle.kern_model.specs.Maps.{any_entry}
-use Rattle.kern_model.specs.State.{State, DropEntry, SetEntry, changed, changed_by, object_at, stub_object, look, root}
+use Rattle.kern_model.specs.State.{State, DropEntry, SetEntry, apply_change, apply_changes, object_at, stub_object, look, root}
 use Rattle.kern_model.specs.Valid.{IsValid, IsDir, IsReached, IsValidObject, IsValidEntry, leads}
 use Rattle.kern_model.proofs.KeyLaws.{oid_cmp_total, oid_cmp_exact, spot_cmp_total, spot_cmp_exact}
 use Rattle.kern_model.proofs.MapLemmas.{same_key, some_same, never_some, each-remove, each-insert, get-insert_same, get-insert_kept, get_or-found}
@@ -178,7 +178,7 @@ module _ (s : State) (valid : IsValid s) (dir : Oid) (name : Name) (id into : Oi
   cleared = map.remove s.entries (into, new)
 
   abbrev cleared_state : State
-  cleared_state = changed s (DropEntry (into, new))
+  cleared_state = apply_change s (DropEntry (into, new))
 
   was : (spot : Spot) (q : Oid) → map.get cleared spot ≡ Some q → map.get s.entries spot ≡ Some q
   was = each-remove spot_cmp_total spot_cmp_exact (λ (spot : Spot) (q : Oid). map.get s.entries spot ≡ Some q) s.entries (λ spot q e. e) (into, new)
@@ -214,13 +214,13 @@ module _ (s : State) (valid : IsValid s) (dir : Oid) (name : Name) (id into : Oi
     order = move.order;
   }
 
-  valid_replaced : IsValid (changed_by s (DropEntry (dir, name) ∷ SetEntry (into, new) id ∷ []))
+  valid_replaced : IsValid (apply_changes s (DropEntry (dir, name) ∷ SetEntry (into, new) id ∷ []))
   valid_replaced = subst (λ (es : FinMap spot_cmp Oid). IsValid (record s { entries = es })) (insert-over_removed spot_cmp_total spot_cmp_exact s.entries (into, new) (dir, name) id)
       (valid_moved cleared_state valid_cleared dir name id into new move_cleared (get-remove_same spot_cmp_total s.entries (into, new)) named)
 
-pub valid_move : (s : State) → IsValid s → (dir : Oid) (name : Name) (id into : Oid) (new : Name) → IsMove s dir name id into new → is_name new ≡ true → IsValid (changed_by s (DropEntry (dir, name) ∷ SetEntry (into, new) id ∷ []))
+pub valid_move : (s : State) → IsValid s → (dir : Oid) (name : Name) (id into : Oid) (new : Name) → IsMove s dir name id into new → is_name new ≡ true → IsValid (apply_changes s (DropEntry (dir, name) ∷ SetEntry (into, new) id ∷ []))
 valid_move s valid dir name id into new move named =
-    elim (look s into new) as (λ w. look s into new ≡ w → IsValid (changed_by s (DropEntry (dir, name) ∷ SetEntry (into, new) id ∷ []))) [
+    elim (look s into new) as (λ w. look s into new ≡ w → IsValid (apply_changes s (DropEntry (dir, name) ∷ SetEntry (into, new) id ∷ []))) [
       | None ↦ λ free. valid_moved s valid dir name id into new move free named
       | Some t ↦ λ at. valid_replaced s valid dir name id into new move named t at
     ] refl

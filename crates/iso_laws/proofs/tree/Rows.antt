@@ -17,7 +17,7 @@ use Rattle.kern_model.specs.Arguments.{are_names}
 use Rattle.kern_model.specs.Create.{attr_of}
 use Rattle.kern_model.specs.Entries.{is_empty, is_removed}
 use Rattle.kern_model.specs.Keys.{Spot, same_oid}
-use Rattle.kern_model.specs.Kinds.{is_dir, kind_of, bytes_of, object_with, masked}
+use Rattle.kern_model.specs.Kinds.{is_dir, kind_of, bytes_of, object_with, masked_permissions}
 use Rattle.kern_model.specs.Row.{Row}
 use Rattle.kern_model.specs.Rules.{on_object, mac_write, created_order, held_order}
 use Rattle.kern_model.specs.State.{State, Process, Change, object_at}
@@ -103,7 +103,7 @@ module _ (Known : Check → Type 0) (Not : Bool → Type 0) (Given : Premise →
       on_new_spot (λ n. First n) path (created_order s p) (λ dir. walked_check _ _ dir) (make_object s p mode b) (λ dir name entry written order not_removed. (
         refl,
         λ left.
-            Create dir name (object_with p.label (attr_of p (masked mode p.umask)) b) _ (record {
+            Create dir name (object_with p.label (attr_of p (masked_permissions mode p.umask)) b) _ (record {
               walked = entry.walked;
               dir_kind = entry.dir_kind;
               free = entry.at;

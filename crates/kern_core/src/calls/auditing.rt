@@ -3,7 +3,7 @@ ghost use Rattle.std.specs.Prelude.{◌≡◌, IsSome, None, false};
 ghost use Rattle.std.specs.FinMap as map;
 ghost use Rattle.kern_model.specs.AuditRows.{aud_switch_row, aud_write_row};
 ghost use Rattle.kern_model.specs.Rules.{on_caller};
-ghost use Rattle.kern_model.specs.State.{SetProcess, changed, process_at};
+ghost use Rattle.kern_model.specs.State.{SetProcess, apply_change, process_at};
 ghost use Rattle.sys_lookup.specs.PlaysRow.{PlaysRow};
 
 use chk_rules::{Checks, Stop, must};
@@ -53,7 +53,7 @@ pub fn aud_switch(
 // Sets whether denials of a living process leave records.
 fn switch(shared: &mut Shared, who: &Pid, on: bool)
     requires { IsSome (map.get shared.old.procs who.now) }
-    ensures { shared.new ≡ changed shared.old (SetProcess who.now (record (process_at shared.old who.now) { audited = on })) }
+    ensures { shared.new ≡ apply_change shared.old (SetProcess who.now (record (process_at shared.old who.now) { audited = on })) }
 {
     shared.procs.set_audited(who, on);
 }

@@ -95,6 +95,8 @@ fn refused_world(error: WorldError) -> Result<InputEnd, NoMemory> {
         WorldError::LabelOrder(number) => (number, LineFault::LabelOrder),
         WorldError::RootLabel(number) => (number, LineFault::RootLabel),
         WorldError::TooMany(number) => (number, LineFault::TooMany),
+        WorldError::Mixed(number) => (number, LineFault::MixedCaps),
+        WorldError::OldFormat(number) => (number, LineFault::OldFormat),
         WorldError::NoMemory(e) => return Err(e),
     };
     Ok(InputEnd::Refused(number, Part::World, why))

@@ -8,7 +8,7 @@ use std::io;
 use std::test::Fail;
 
 // A world and a script whose call needs no capability.
-const PLAIN: &[u8] = b"world 1\n\
+const PLAIN: &[u8] = b"world 2\n\
     levels unc conf sec\n\
     categories a b\n\
     bound all\n\

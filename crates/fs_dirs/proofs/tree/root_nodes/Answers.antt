@@ -3,7 +3,7 @@ use Rattle.std.proofs.Common.{ap, ◌∙◌, arith}
 use Rattle.lab_lattice.specs.Label.{Label}
 use Rattle.kern_model.specs.declared.objects.Body.TheVariants as body
 use Rattle.kern_model.specs.Kinds.{object_with}
-use Rattle.kern_model.specs.State.{drawn}
+use Rattle.kern_model.specs.State.{last_drawn}
 use Rattle.fs_nodes.specs.Nodes.{NodeTable, no_nodes, with_new}
 use Rattle.fs_dirs.proofs.TreeLemmas.{none_drawn, root_made}
 use Rattle.fs_dirs.proofs.tree.root_nodes.Goals as goal
@@ -11,7 +11,7 @@ use Rattle.fs_dirs.proofs.tree.root_nodes.Goals as goal
 pub unreachable-requires : goal.unreachable-requires
 unreachable-requires c =
     let many = c.create.ensures.full.0 (c.in-Err-Full.is ∙ ap Err c.in-Err-Full.field-0-is) in
-    let none = ap (λ (t : NodeTable). drawn t.numbers c.bottom.result) c.in_ok-nodes.ensures ∙ none_drawn c.bottom.result in
+    let none = ap (λ (t : NodeTable). last_drawn t.numbers c.bottom.result) c.in_ok-nodes.ensures ∙ none_drawn c.bottom.result in
     omega (arith, many, none)
 
 pub returns-in-Ok : goal.returns-in-Ok

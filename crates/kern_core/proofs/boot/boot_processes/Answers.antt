@@ -1,6 +1,6 @@
 use Rattle.std.proofs.Common.{◌∙◌, ◌+◌, ◌++◌, ap, drop, List}
 use Rattle.kern_model.specs.declared.records.Rec.{Rec}
-use Rattle.kern_model.specs.Boot.{started}
+use Rattle.kern_model.specs.Boot.{boot_recs_from}
 use Rattle.kern_core.proofs.BootLemmas.{can_first, process_room, processes_step, processes_can, started_step}
 use Rattle.kern_core.proofs.boot.boot_processes.Goals as goal
 
@@ -21,7 +21,7 @@ loop-process-preserved c =
     let index = c.loop-process.process-index in
     record {
       same = processes_step s t procs index c.process-item.result c.loop-process-test.true c.process-item.is c.in_ok-who.ensures.state ∙ c.loop-process.invariant.same;
-      recs = ap (λ (rs : List Rec). rs ++ started t (drop (index + 1) procs)) c.in_ok-note_start.ensures
+      recs = ap (λ (rs : List Rec). rs ++ boot_recs_from t (drop (index + 1) procs)) c.in_ok-note_start.ensures
           ∙ started_step s t procs index c.process-item.result c.loop-process-test.true c.process-item.is c.in_ok-who.ensures.state c.in_ok-who.who c.in_ok-who.ensures.number recs
           ∙ c.loop-process.invariant.recs;
       can = processes_can s t procs index c.process-item.result c.loop-process-test.true c.process-item.is c.in_ok-who.ensures.state c.loop-process.invariant.can;

@@ -2,7 +2,7 @@ use Rattle.std.proofs.Common.{◌≡◌, ◌∷◌, [], ap, subst}
 use Rattle.kern_model.specs.declared.calls.Call.{Call}
 use Rattle.kern_model.specs.declared.numbers.Pid.{Pid}
 use Rattle.kern_model.specs.declared.records.Outcome.{Outcome}
-use Rattle.kern_model.specs.Run.{CallRecord, played}
+use Rattle.kern_model.specs.Run.{CallRecord, item_record}
 use Rattle.kern_model.specs.State.{State}
 use Rattle.kern_model.specs.Step.{IsPlayed}
 use Rattle.script_text.specs.declared.line.Line.{Line}
@@ -15,7 +15,7 @@ use Rattle.lab_engine.proofs.SeenLemmas.{none_seen, saw_equal}
 use Rattle.lab_engine.proofs.playing.play_call.Goals as goal
 
 -- what was played of a call on its line, by its outcome
-played_on : (s t : State) (line : Line) (at : ℕ) (call : Call) (who : Pid) → who ≡ who_on line → (o : Outcome) → IsPlayed s who call o t → call_on line at o ≡ played s (item_on line at call)
+played_on : (s t : State) (line : Line) (at : ℕ) (call : Call) (who : Pid) → who ≡ who_on line → (o : Outcome) → IsPlayed s who call o t → call_on line at o ≡ item_record s (item_on line at call)
 played_on s t line at call who is o did = by_outcome s t (item_on line at call) o (subst (λ (w : Pid). IsPlayed s w call o t) is did)
 
 pub returns-in_err-outcome-clause-writes : goal.returns-in_err-outcome-clause-writes

@@ -3,7 +3,7 @@ use Rattle.std.specs.Prelude.{List}
 use Rattle.kern_model.specs.declared.calls.Call.{Call}
 use Rattle.kern_model.specs.Arguments.{is_call}
 use Rattle.kern_model.specs.State.{State}
-use Rattle.kern_model.specs.Run.{played, run, state_after_run}
+use Rattle.kern_model.specs.Run.{item_record, run, state_after_run}
 use Rattle.lab_lattice.specs.Label.{Label}
 use Rattle.iso_laws.proofs.Laws.{top_step}
 use Rattle.script_text.specs.declared.line.Line.{Line}
@@ -125,8 +125,8 @@ loop-at-preserved g c =
       after = ap (λ (x : State). state_after_run x left) state ∙ sym (ap (state_after_run s) (first c.args.line.now c.args.util.now c.requires.line c.requires.calls.2 c.items-call-items.result.now (c.items-call-items.ensures ∙ c.in_ok-calls.ensures.calls) (ap length c.items-call-items.ensures ∙ c.in_ok-calls.ensures.each) c.loop-at.at c.call-item.result c.loop-at-test.true c.call-item.is)) ∙ i.after;
       top = ap (λ (x : State). x.top) state ∙ top_step s (who_on c.args.line.now) c.call-item.result ∙ i.top;
       playable = (first_playable _ _ _ _ (first c.args.line.now c.args.util.now c.requires.line c.requires.calls.2 c.items-call-items.result.now (c.items-call-items.ensures ∙ c.in_ok-calls.ensures.calls) (ap length c.items-call-items.ensures ∙ c.in_ok-calls.ensures.each) c.loop-at.at c.call-item.result c.loop-at-test.true c.call-item.is) i.playable).others;
-      saw = so_far_more _ _ _ _ i.saw _ _ (ap (run s) (first c.args.line.now c.args.util.now c.requires.line c.requires.calls.2 c.items-call-items.result.now (c.items-call-items.ensures ∙ c.in_ok-calls.ensures.calls) (ap length c.items-call-items.ensures ∙ c.in_ok-calls.ensures.each) c.loop-at.at c.call-item.result c.loop-at-test.true c.call-item.is) ∙ ap (λ (x : State). played s (item_on c.args.line.now c.loop-at.at c.call-item.result) ∷ run x left) (sym state)) _ saw.0;
-      numbered = ap (λ k. k + 1) i.numbered ∙ sym (length-append (calls_seen c.loop-at.reporter.seen.items) (played s (item_on c.args.line.now c.loop-at.at c.call-item.result) ∷ [])) ∙ sym (ap length saw.0);
+      saw = so_far_more _ _ _ _ i.saw _ _ (ap (run s) (first c.args.line.now c.args.util.now c.requires.line c.requires.calls.2 c.items-call-items.result.now (c.items-call-items.ensures ∙ c.in_ok-calls.ensures.calls) (ap length c.items-call-items.ensures ∙ c.in_ok-calls.ensures.each) c.loop-at.at c.call-item.result c.loop-at-test.true c.call-item.is) ∙ ap (λ (x : State). item_record s (item_on c.args.line.now c.loop-at.at c.call-item.result) ∷ run x left) (sym state)) _ saw.0;
+      numbered = ap (λ k. k + 1) i.numbered ∙ sym (length-append (calls_seen c.loop-at.reporter.seen.items) (item_record s (item_on c.args.line.now c.loop-at.at c.call-item.result) ∷ [])) ∙ sym (ap length saw.0);
       going = saw.1;
       start = c.in_ok-play_call.ensures.start ∙ i.start;
       same = (c.in_ok-play_call.ensures.same.0 ∙ i.same.0, i.same.1 ∙ c.in_ok-play_call.ensures.same.1, i.same.2 ∙ c.in_ok-play_call.ensures.same.2);

@@ -4,13 +4,13 @@ use Rattle.lab_engine.proofs.WorldProgress.{counts_once, line_fewer, world_accep
 use Rattle.lab_engine.proofs.reading.read_world.Goals as goal
 
 pub loop-after-init : goal.loop-after-init
-loop-after-init g c = record { progress = world_begins _ _ c.requires; still = refl }
+loop-after-init g c = record { progress = world_begins _ _ _ c.requires; still = refl }
 
 pub read_world_line-requires : goal.read_world_line-requires
 read_world_line-requires g c = c.loop-after.invariant.progress.more
 
 pub returns-in_err-after-clause-reads : goal.returns-in_err-after-clause-reads
-returns-in_err-after-clause-reads g c = world_fails _ _ _ _ _ _ _ c.loop-after.invariant.progress _ _ c.from_residual.ensures.1 c.in_err-after.ensures.reads
+returns-in_err-after-clause-reads g c = world_fails _ _ _ _ _ _ _ _ c.loop-after.invariant.progress _ _ c.from_residual.ensures.1 c.in_err-after.ensures.reads
 
 pub returns-in_err-after-clause-counts : goal.returns-in_err-after-clause-counts
 returns-in_err-after-clause-counts g c = λ o t. counts_once c.from_residual.result _ c.from_residual.ensures.1 _ _ _ (ap (λ n. counts n o t) c.loop-after.invariant.still) (c.in_err-after.ensures.counts o t)
@@ -20,18 +20,18 @@ loop-after-smaller g c = line_fewer _ _ _ _ c.loop-after.expecting _ c.in_ok-aft
 
 pub loop-after-preserved : goal.loop-after-preserved
 loop-after-preserved g c = record {
-  progress = world_more _ _ _ _ _ _ _ c.loop-after.invariant.progress c.in-GoesOn.after _ c.in-GoesOn.is c.in_ok-after.ensures.reads;
+  progress = world_more _ _ _ _ _ _ _ _ c.loop-after.invariant.progress c.in-GoesOn.after _ c.in-GoesOn.is c.in_ok-after.ensures.reads;
   still = ap (λ (k : Counts). k.source) (c.in_ok-after.ensures.counts 0 0) ∙ c.loop-after.invariant.still;
 }
 
 pub returns-in-World-clause-reads : goal.returns-in-World-clause-reads
-returns-in-World-clause-reads g c = world_accepted _ _ _ _ _ _ _ c.loop-after.invariant.progress c.in-World.world _ c.in-World.is c.in_ok-after.ensures.reads
+returns-in-World-clause-reads g c = world_accepted _ _ _ _ _ _ _ _ c.loop-after.invariant.progress c.in-World.world _ c.in-World.is c.in_ok-after.ensures.reads
 
 pub returns-in-World-clause-counts : goal.returns-in-World-clause-counts
 returns-in-World-clause-counts g c = λ o t. c.in_ok-after.ensures.counts o t ∙ ap (λ n. counts n o t) c.loop-after.invariant.still
 
 pub returns-in-Ended-clause-reads : goal.returns-in-Ended-clause-reads
-returns-in-Ended-clause-reads g c = world_ended _ _ _ _ _ _ _ c.loop-after.invariant.progress c.in-Ended.ending _ c.in-Ended.is c.in_ok-after.ensures.reads
+returns-in-Ended-clause-reads g c = world_ended _ _ _ _ _ _ _ _ c.loop-after.invariant.progress c.in-Ended.ending _ c.in-Ended.is c.in_ok-after.ensures.reads
 
 pub returns-in-Ended-clause-counts : goal.returns-in-Ended-clause-counts
 returns-in-Ended-clause-counts g c = λ o t. c.in_ok-after.ensures.counts o t ∙ ap (λ n. counts n o t) c.loop-after.invariant.still

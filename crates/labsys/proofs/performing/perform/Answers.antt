@@ -19,6 +19,9 @@ returns-in_ok-drill-in-Drill-clause-did g c = alone_written _ _ (drills _ _ c.in
 pub returns-in-Check-clause-trail_fault : goal.returns-in-Check-clause-trail_fault
 returns-in-Check-clause-trail_fault g c = λ is. absurd (no_trail_fault c.check.result _ _ _ _ _ (c.check.ensures (sink_view None 0)).writes is)
 
+pub returns-in-Upgrade-clause-trail_fault : goal.returns-in-Upgrade-clause-trail_fault
+returns-in-Upgrade-clause-trail_fault g c = λ is. absurd (no_trail_fault c.upgrade.result _ _ _ _ _ (c.upgrade.ensures.did (sink_view None 0)).writes is)
+
 pub returns-in-View-clause-trail_fault : goal.returns-in-View-clause-trail_fault
 returns-in-View-clause-trail_fault g c = λ is. absurd (no_trail_fault c.view.result _ _ _ _ _ (c.view.ensures (sink_view None 0)).writes is)
 

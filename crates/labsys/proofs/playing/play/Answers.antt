@@ -4,7 +4,7 @@ use Rattle.labsys.proofs.PlayLemmas.{ended_readable, ended_writes, open_fails, o
 use Rattle.labsys.proofs.playing.play.Goals as goal
 
 pub returns-in_err-opened-clause-did : goal.returns-in_err-opened-clause-did
-returns-in_err-opened-clause-did g c = open_fails _ _ _ _ _ c.in_err-opened.ensures.opens _ _ _ _ (c.in_err-opened.ensures.counts _ _) c.from_residual.ensures.1
+returns-in_err-opened-clause-did g c = open_fails _ _ _ _ _ c.in_err-opened.ensures.opens _ _ _ _ (c.in_err-opened.ensures.counts _ _) c.from_residual.ensures.1 refl
 
 pub returns-in_err-opened-clause-readable : goal.returns-in_err-opened-clause-readable
 returns-in_err-opened-clause-readable g c = λ text is a accepted. inr (prefix_nothing _ _ _ _ _)
@@ -28,7 +28,7 @@ pub returns-in-World-clause-readable : goal.returns-in-World-clause-readable
 returns-in-World-clause-readable g c = opened_readable _ _ _ c.in_ok-opened.ensures.opens c.in-World.opened c.in-World.is c.play_world.result _ _ _ _ _ c.in_ok-opened.ensures.counts _ c.play_world.ensures
 
 pub returns-in-Ended-clause-did : goal.returns-in-Ended-clause-did
-returns-in-Ended-clause-did g c = ended_writes _ _ _ c.in_ok-opened.ensures.opens c.in-Ended.ending c.in-Ended.is _ refl c.end_without_world.result _ _ _ _ _ c.in_ok-opened.ensures.counts c.end_without_world.ensures.writes c.end_without_world.ensures.ending
+returns-in-Ended-clause-did g c = ended_writes _ _ _ c.in_ok-opened.ensures.opens c.in-Ended.ending c.in-Ended.is _ refl refl c.end_without_world.result _ _ _ _ _ c.in_ok-opened.ensures.counts c.end_without_world.ensures.writes c.end_without_world.ensures.ending
 
 pub returns-in-Ended-clause-readable : goal.returns-in-Ended-clause-readable
 returns-in-Ended-clause-readable g c = ended_readable _ _ _ c.in_ok-opened.ensures.opens c.in-Ended.ending c.in-Ended.is _ _

@@ -1,5 +1,5 @@
 use Rattle.std.proofs.Common.{◌∙◌, refl, sym}
-use Rattle.labsys.proofs.ClauseLemmas.{as_play, as_view, is_play, run_counts, run_ending, run_few, run_order, run_play, run_read_fault, run_to_the_end, run_trail_fault, run_view, run_whole}
+use Rattle.labsys.proofs.ClauseLemmas.{as_play, as_upgrade, as_view, is_play, is_upgrade, run_counts, run_ending, run_few, run_order, run_play, run_read_fault, run_to_the_end, run_trail_fault, run_upgrade, run_view, run_whole}
 use Rattle.labsys.proofs.PerformLemmas.{left_alone}
 use Rattle.labsys.proofs.InputLemmas.{reads_nothing}
 use Rattle.labsys.proofs.UntouchedLemmas.{untouched_alone, untouched_order, untouched_play, untouched_read_fault, untouched_to_the_end, where_named}
@@ -34,6 +34,11 @@ returns-in-Some-clause-play g c = λ play.
 pub returns-in-Some-clause-view : goal.returns-in-Some-clause-view
 returns-in-Some-clause-view g c = λ word view. run_view word c.perform.result _ _ _ _ (as_view _ _ word _ _ _ _ _ (sym c.in-Ok.ensures.command ∙ c.in-Some.is) view c.perform.ensures.did) _ c.status_of.ensures
 
+pub returns-in-Some-clause-upgrade : goal.returns-in-Some-clause-upgrade
+returns-in-Some-clause-upgrade g c = λ upgrade.
+    let same = is_upgrade _ _ (sym c.in-Ok.ensures.command ∙ c.in-Some.is) upgrade in
+    run_upgrade c.perform.result _ _ _ _ (as_upgrade _ _ _ _ _ _ same c.perform.ensures.did) _ c.status_of.ensures (c.perform.ensures.back same)
+
 pub returns-in-Some-clause-few : goal.returns-in-Some-clause-few
 returns-in-Some-clause-few g c = run_few _ c.perform.result _ _ _ _ c.perform.ensures.did
 
@@ -65,6 +70,9 @@ returns-in_default-clause-play g c = λ play. untouched_play _ _ _
 
 pub returns-in_default-clause-view : goal.returns-in_default-clause-view
 returns-in_default-clause-view g c = λ word view. record { view_alone = λ l done. cc }
+
+pub returns-in_default-clause-upgrade : goal.returns-in_default-clause-upgrade
+returns-in_default-clause-upgrade g c = λ upgrade. record { upgraded = λ done. cc }
 
 pub returns-in_default-clause-to_the_end : goal.returns-in_default-clause-to_the_end
 returns-in_default-clause-to_the_end g c = untouched_to_the_end _ _

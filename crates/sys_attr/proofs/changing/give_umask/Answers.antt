@@ -1,7 +1,7 @@
 use Rattle.std.proofs.Common.{◌≡◌, ◌∙◌, Some, IsSome, ap, subst, sym}
 use Rattle.std.specs.FinMap as map
 use Rattle.std.specs.Option.{option_copied_mut}
-use Rattle.kern_model.specs.State.{SetProcess, State, changed, process_at}
+use Rattle.kern_model.specs.State.{SetProcess, State, apply_change, process_at}
 use Rattle.kern_model.proofs.StateLemmas.{process_there}
 use Rattle.proc_creds.specs.Credentials.{Credentials}
 use Rattle.proc_table.specs.Procs.{creds_of, with_creds}
@@ -41,4 +41,4 @@ returns-clause-changed c =
     let inside = c.creds.inside in
     let left : Credentials = record { ids = inside.ids; label = inside.label; caps = inside.caps; umask = c.args.mode } in
     process_set c.shared.view_is who (with_creds p left) (creds_left h.procs.procs h.fds.processes who p (stands c.before.before) left)
-    ∙ ap (λ (x : Credentials). changed s (SetProcess who (with_creds p (record x { umask = c.args.mode })))) (c.creds.view_is ∙ lent c.before.before)
+    ∙ ap (λ (x : Credentials). apply_change s (SetProcess who (with_creds p (record x { umask = c.args.mode })))) (c.creds.view_is ∙ lent c.before.before)

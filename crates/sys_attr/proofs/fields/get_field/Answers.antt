@@ -1,4 +1,5 @@
 use Rattle.std.proofs.Common.{◌∙◌, None, ap, not}
+use Rattle.cap_bits.specs.FileCaps.{shown}
 use Rattle.kern_model.specs.declared.calls.Answer.TheVariants as answer
 use Rattle.kern_model.specs.Kinds.{is_file}
 use Rattle.chk_rules.proofs.Steps.{equal_refusal}
@@ -34,7 +35,7 @@ returns-in_ok-refuse_if-in-Caps c =
     (called (λ k. get_row k.state k.process c.args.object Caps) same
     (then_plays {rest = on_read c.new-caller.result.state (report Caps)} c.in_ok-object.ensures.step
     (refuse_plays (equal_refusal no_file (c.in_ok-refuse_if-in-Caps.ensures c.read_named.new.checks))
-    (commits_as (c.answers.ensures ∙ ap (λ (m : Metadata). record { answer = answer.Caps m.attr.caps; own = None }) is) (state_is same)))))
+    (commits_as (c.answers.ensures ∙ (λ i. record { answer = answer.Caps ((c.shown.ensures.value ∙ ap (λ (m : Metadata). shown m.attr.caps) is) i); own = None })) (state_is same)))))
 
 pub returns-in-Label : goal.returns-in-Label
 returns-in-Label c =

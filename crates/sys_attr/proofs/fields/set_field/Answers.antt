@@ -1,8 +1,9 @@
-use Rattle.std.proofs.Common.{◌∙◌, Some, ap, sym}
+use Rattle.std.proofs.Common.{◌∙◌, Some, sym}
+use Rattle.cap_bits.specs.declared.file_caps.FileCaps.{FileCaps}
 use Rattle.kern_model.specs.AttrRows.{give_caps, give_label, with_attr, with_label}
 use Rattle.kern_model.specs.declared.calls.Answer.TheVariants.{Nothing}
 use Rattle.kern_model.specs.declared.records.Rec.TheVariants.{CapSetFile, MacSetFile}
-use Rattle.kern_model.specs.State.{changed, object_at}
+use Rattle.kern_model.specs.State.{apply_change, object_at}
 use Rattle.sys_lookup.proofs.PlayLemmas.{then_plays, stops_row, commits_as}
 use Rattle.sys_lookup.specs.declared.shared.Metadata.{Metadata}
 use Rattle.sys_attr.specs.declared.fields.Setting.TheVariants.{Caps, Label}
@@ -21,29 +22,30 @@ returns-in_err-object c = write_stops c.new-caller.ensures.caller _ (λ k. chang
 
 -- ---- capability sets
 
-pub returns-in_err-ask_caps-in-Caps : goal.returns-in_err-ask_caps-in-Caps
-returns-in_err-ask_caps-in-Caps c =
+pub returns-in_err-file_caps-in-Caps : goal.returns-in_err-file_caps-in-Caps
+returns-in_err-file_caps-in-Caps c =
     let k = c.new-caller.result in
     let same = c.new-caller.ensures.caller in
     let id = c.in_ok-object.object.id in
     let caps = c.in-Caps.caps in
     rw c.in-Caps.is
     (write_plays same _ (λ x. change x.state x.who x.process (Caps caps)) c.in_ok-object.ensures.step
-    (stops_row {rest = λ _. give_caps k.who caps id (object_at k.state id)} c.from_residual-in_err-ask_caps-in-Caps.result c.from_residual-in_err-ask_caps-in-Caps.ensures.1 (state_is same) (c.in_err-ask_caps-in-Caps.ensures k.state id c.in_ok-object.ensures.object)))
+    (stops_row {rest = λ _. give_caps k.who caps id (object_at k.state id)} c.from_residual-in_err-file_caps-in-Caps.result c.from_residual-in_err-file_caps-in-Caps.ensures.1 (state_is same) (c.in_err-file_caps-in-Caps.ensures.step k.state id c.in_ok-object.ensures.object)))
 
-pub returns-in_ok-ask_caps-in-Caps : goal.returns-in_ok-ask_caps-in-Caps
-returns-in_ok-ask_caps-in-Caps c =
+pub returns-in_ok-file_caps-in-Caps : goal.returns-in_ok-file_caps-in-Caps
+returns-in_ok-file_caps-in-Caps c =
     let k = c.new-caller.result in
     let same = c.new-caller.ensures.caller in
     let id = c.in_ok-object.object.id in
     let is = c.in_ok-object.ensures.object in
     let caps = c.in-Caps.caps in
-    let attr = λ (m : Metadata). record m.attr { caps = caps } in
+    let attr = λ (f : FileCaps) (m : Metadata). record m.attr { caps = f } in
+    let file_caps = c.in_ok-file_caps-in-Caps.ensures.value in
     rw c.in-Caps.is
     (write_plays same _ (λ x. change x.state x.who x.process (Caps caps)) c.in_ok-object.ensures.step
-    (then_plays {rest = λ _. give_caps k.who caps id (object_at k.state id)} (c.in_ok-ask_caps-in-Caps.ensures k.state id is)
+    (then_plays {rest = λ _. give_caps k.who caps id (object_at k.state id)} (c.in_ok-file_caps-in-Caps.ensures.step k.state id is)
     (commits_as (c.leaves.ensures ∙ (λ i. record { answer = Nothing; own = Some (CapSetFile (sym same i).who id caps) }))
-    (change_is same (λ s. with_attr id (object_at s id) (attr c.in_ok-object.object)) c.give_attr.ensures ∙ ap (λ m. changed k.state (with_attr id (object_at k.state id) (attr m))) is))))
+    (change_is same (λ s. with_attr id (object_at s id) (attr c.in_ok-file_caps-in-Caps.file_caps c.in_ok-object.object)) c.give_attr.ensures ∙ (λ i. apply_change k.state (with_attr id (object_at k.state id) (attr (file_caps i) (is i))))))))
 
 -- ---- a label
 

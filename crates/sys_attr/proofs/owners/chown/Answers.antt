@@ -1,6 +1,6 @@
 use Rattle.std.proofs.Common.{◌∙◌, ap}
 use Rattle.kern_model.specs.AttrRows.{change_owner, set_owner, with_attr}
-use Rattle.kern_model.specs.State.{changed, object_at}
+use Rattle.kern_model.specs.State.{apply_change, object_at}
 use Rattle.sys_lookup.proofs.PlayLemmas.{then_plays, stops_row, commits_as}
 use Rattle.sys_lookup.specs.declared.shared.Metadata.{Metadata}
 use Rattle.sys_attr.specs.declared.objects.ObjectArgument.TheVariants.{Path}
@@ -29,4 +29,4 @@ returns c =
     let attr = λ (m : Metadata). record m.attr { owner = c.args.to.owner; group = c.args.to.group; mode = c.in_ok-mode.mode } in
     write_plays same (Path c.args.path) (λ k. change_owner k.process c.args.to.owner c.args.to.group) c.in_ok-object.ensures.step
     (then_plays {rest = set_owner id (object_at s id) c.args.to.owner c.args.to.group} (c.in_ok-mode.ensures s id c.in_ok-object.ensures.object)
-    (commits_as c.done.ensures (change_is same (λ x. with_attr id (object_at x id) (attr c.in_ok-object.object)) c.give_attr.ensures ∙ ap (λ m. changed s (with_attr id (object_at s id) (attr m))) c.in_ok-object.ensures.object)))
+    (commits_as c.done.ensures (change_is same (λ x. with_attr id (object_at x id) (attr c.in_ok-object.object)) c.give_attr.ensures ∙ ap (λ m. apply_change s (with_attr id (object_at s id) (attr m))) c.in_ok-object.ensures.object)))

@@ -1,11 +1,10 @@
-use Rattle.std.proofs.Common.{◌≡◌, ap, sym, refl, subst, ◌∷◌, [], ℤ, unsigned_abs, rules, w64, to_z, of_z, true, false, IsSome, Ok, Err}
+use Rattle.std.proofs.Common.{◌≡◌, ap, sym, refl, subst, ◌∷◌, [], ℤ, unsigned_abs, rules, w64, to_z, of_z, IsSome, Ok, Err}
 use Rattle.std.proofs.lemmas.Int.{to_z-of_z}
 use Rattle.kern_model.specs.declared.calls.Answer.TheVariants as answer
 use Rattle.kern_model.specs.declared.calls.Errno.TheVariants.{EINVAL}
 use Rattle.kern_model.specs.FileRows.{offset_change, moves}
 use Rattle.kern_model.specs.State.{State}
 use Rattle.chk_rules.specs.declared.stop.Stop.TheVariants as stop
-use Rattle.fd_table.specs.declared.table.FdError.TheVariants as error
 use Rattle.fd_table.specs.Files.{is_past}
 use Rattle.fd_table.specs.Fds.{AllFds}
 use Rattle.sys_lookup.specs.Owners.{HasOwners}

@@ -1,4 +1,4 @@
-use Rattle.std.proofs.Common.{◌≡◌, ◌∙◌, ap, sym, refl, subst, ◌+◌, ◌∷◌, [], nat_le, not, true, false, Ok, Err, IsSome}
+use Rattle.std.proofs.Common.{◌≡◌, ◌∙◌, ap, sym, refl, subst, ◌+◌, ◌∷◌, [], nat_le, not, Ok, Err, IsSome}
 use Rattle.kern_model.specs.declared.calls.Answer.TheVariants as answer
 use Rattle.kern_model.specs.declared.calls.Errno.TheVariants.{EMFILE}
 use Rattle.kern_model.specs.declared.limits.TheConstants.{MAX_DESCRIPTORS}
@@ -6,13 +6,12 @@ use Rattle.kern_model.specs.Descriptors.{lowest_free, with_descriptor}
 use Rattle.kern_model.specs.FileRows.{repeat}
 use Rattle.kern_model.specs.State.{State, Process, SetProcess, process_at}
 use Rattle.chk_rules.specs.declared.stop.Stop.TheVariants as stop
-use Rattle.fd_table.specs.declared.table.FdError.TheVariants as error
 use Rattle.fd_table.specs.Files.{OpenFiles, with_lowest}
 use Rattle.fd_table.specs.Fds.{fd_count, fds_of}
 use Rattle.fd_table.proofs.Counting.{either_way}
 use Rattle.sys_lookup.specs.Owners.{HasOwners}
 use Rattle.sys_lookup.specs.PlaysRow.{PlaysRow}
-use Rattle.sys_lookup.specs.Shared.{holding, state_of, with_fds}
+use Rattle.sys_lookup.specs.Shared.{process_with_fds, state_of, with_fds}
 use Rattle.sys_lookup.proofs.FdChanges.{with_fds-row, with_files}
 use Rattle.sys_lookup.proofs.OwnerLemmas.{owners_row}
 use Rattle.sys_lookup.proofs.PlayLemmas.{commits_as, refuse_plays, refuse_stops_row}
@@ -28,7 +27,7 @@ returns-clause-played c = λ f log is.
     let s = state_of h in
     let who = c.args.who.now in
     let stands = opener h c.shared.view_is who c.args.fd f is in
-    let q = holding h.fds.processes who stands.process in
+    let q = process_with_fds h.fds.processes who stands.process in
     let at = referred h c.shared.view_is who c.args.fd f is in
     let some = subst IsSome (sym at.did) refl in
     let n = fd_count (fds_of h.fds.processes who) in

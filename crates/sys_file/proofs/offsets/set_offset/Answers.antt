@@ -3,7 +3,7 @@ use Rattle.std.proofs.Math.Facts.{to_z-of_z}
 use Rattle.std.specs.Result.{is_err}
 use Rattle.std.proofs.lemmas.Bool.{le-ltb, true≢false}
 use Rattle.kern_model.specs.FileRows.{offset_change}
-use Rattle.kern_model.specs.State.{State, changed}
+use Rattle.kern_model.specs.State.{State, apply_change}
 use Rattle.fd_table.specs.Files.{is_past}
 use Rattle.fd_table.specs.Fds.{AllFds}
 use Rattle.fd_table.proofs.Counting.{where_ok}
@@ -34,8 +34,8 @@ returns c = λ f is.
     let at = referred h c.shared.view_is c.args.who.now c.args.fd f is in
     let set = where_ok c.seek.result (sym c.is_err.ensures.value ∙ c.if-is_err.false) (c.seek.ensures.moved f.did f.description at.did at.description) in
     (λ i. record s { procs = with_fds h.procs.procs (set i).processes; descriptions = (set i).descriptions; description_numbers = (set i).numbers })
-    ∙ ap (λ z. changed s (offset_change f (unsigned_abs z))) (to_z-of_z {w = w64} {z = c.from.result} (record { sfits = c.from.type_inv }) ∙ c.from.ensures)
-    ∙ ap (λ (x : State). changed x (offset_change f c.args.to)) c.shared.view_is
+    ∙ ap (λ z. apply_change s (offset_change f (unsigned_abs z))) (to_z-of_z {w = w64} {z = c.from.result} (record { sfits = c.from.type_inv }) ∙ c.from.ensures)
+    ∙ ap (λ (x : State). apply_change x (offset_change f c.args.to)) c.shared.view_is
 
 pub invariant_of-shared : goal.invariant_of-shared
 invariant_of-shared c = subst (λ (rows : AllFds). ∥ HasOwners c.shared.inside.procs.procs rows ∥₁) (sym c.seek.ensures.processes) c.shared.invariant

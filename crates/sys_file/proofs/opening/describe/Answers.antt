@@ -1,8 +1,8 @@
 use Rattle.std.proofs.Common.{◌≡◌, ◌∙◌, ap, sym, subst, ◌+◌, true, cond, None, Some, Option, nat_le}
 use Rattle.kern_model.specs.declared.limits.TheConstants.{MAX_DESCRIPTIONS, MAX_DESCRIPTORS}
 use Rattle.kern_model.specs.Descriptors.{lowest_free}
-use Rattle.kern_model.specs.FileRows.{description_creation_after, opening}
-use Rattle.kern_model.specs.State.{State, Process, changed_by, drawn, process_at}
+use Rattle.kern_model.specs.FileRows.{description_creation_after, description_creation}
+use Rattle.kern_model.specs.State.{State, Process, apply_changes, last_drawn, process_at}
 use Rattle.kern_model.specs.Valid.{IsThere}
 use Rattle.fd_table.specs.declared.table.FdError.{FdError}
 use Rattle.fd_table.specs.declared.table.FdError.TheVariants as error
@@ -11,7 +11,7 @@ use Rattle.fd_table.specs.Fds.{fd_count}
 use Rattle.fd_table.proofs.Counting.{either_way}
 use Rattle.sys_lookup.specs.Callers.{CallerView}
 use Rattle.sys_lookup.specs.Owners.{HasOwners}
-use Rattle.sys_lookup.specs.Shared.{holding, state_of}
+use Rattle.sys_lookup.specs.Shared.{process_with_fds, state_of}
 use Rattle.sys_lookup.proofs.FdChanges.{ShowTheSame, opened_shows, with_files}
 use Rattle.sys_lookup.proofs.OwnerLemmas.{owners_others, owners_row}
 use Rattle.sys_file.proofs.BranchLemmas.{if_ok, on_ok}
@@ -29,10 +29,10 @@ no_memory-requires c =
     let fds = c.reserve.ensures.same who ∙ ap (λ (x : Process). x.fds) stands.same in
     let numbers = c.reserve.ensures.numbers ∙ ap (λ (x : State). x.description_numbers) c.shared.view_is in
     let free : nat_le (fd_count p.fds + 1) MAX_DESCRIPTORS ≡ true = c.requires.free in
-    let left : nat_le (drawn c.args.shared.now.description_numbers p.label + 1) MAX_DESCRIPTIONS ≡ true = c.requires.left in
+    let left : nat_le (last_drawn c.args.shared.now.description_numbers p.label + 1) MAX_DESCRIPTIONS ≡ true = c.requires.left in
     c.in-Err.ensures.memory
-    ((λ i. cond (nat_le (fd_count (fds i) + 1) MAX_DESCRIPTORS) (cond (nat_le (drawn (numbers i) (label_is i) + 1) MAX_DESCRIPTIONS) None (Some error.Full)) (Some error.TooMany))
-    ∙ ap (λ b. cond {A = Option FdError} b (cond (nat_le (drawn c.args.shared.now.description_numbers p.label + 1) MAX_DESCRIPTIONS) None (Some error.Full)) (Some error.TooMany)) free
+    ((λ i. cond (nat_le (fd_count (fds i) + 1) MAX_DESCRIPTORS) (cond (nat_le (last_drawn (numbers i) (label_is i) + 1) MAX_DESCRIPTIONS) None (Some error.Full)) (Some error.TooMany))
+    ∙ ap (λ b. cond {A = Option FdError} b (cond (nat_le (last_drawn c.args.shared.now.description_numbers p.label + 1) MAX_DESCRIPTIONS) None (Some error.Full)) (Some error.TooMany)) free
     ∙ ap (λ b. cond {A = Option FdError} b None (Some error.Full)) left)
 
 pub returns-clause-fd : goal.returns-clause-fd
@@ -54,15 +54,15 @@ returns-clause-described c =
     let id = c.args.id.now in
     let p = process_at c.args.shared.now who in
     let stands = caller_stands h c.shared.view_is who c.requires.living in
-    let q = holding h.fds.processes who stands.process in
+    let q = process_with_fds h.fds.processes who stands.process in
     let label_is : c.label-label.result ≡ p.label = c.label-label.ensures ∙ ap (λ (k : CallerView). k.process.label) c.new.ensures.caller in
     let same : ShowTheSame h.fds c.reserve.new.self = record { processes = c.reserve.ensures.same; descriptions = c.reserve.ensures.descriptions; numbers = c.reserve.ensures.numbers } in
-    let Made = with_files s h.procs.procs c.open_at_lowest.new.self ≡ changed_by c.args.shared.now (opening c.args.shared.now who p id c.args.flags) in
+    let Made = with_files s h.procs.procs c.open_at_lowest.new.self ≡ apply_changes c.args.shared.now (description_creation c.args.shared.now who p id c.args.flags) in
     elim c.match-open_at_lowest.branch [
       | in-Ok w ↦ on_ok w.result-is Made
           (ap (with_files s h.procs.procs) w.in-Ok.ensures.opened
           ∙ opened_shows s h.procs.procs h.fds c.reserve.new.self same who stands.process stands.is c.label-label.result (opened_for id c.how.result)
-          ∙ (λ i. changed_by (c.shared.view_is i) (description_creation_after (drawn (c.shared.view_is i).description_numbers (label_is i)) (label_is i) who (stands.same i) (opened_for id (c.how.ensures i)))))
+          ∙ (λ i. apply_changes (c.shared.view_is i) (description_creation_after (last_drawn (c.shared.view_is i).description_numbers (label_is i)) (label_is i) who (stands.same i) (opened_for id (c.how.ensures i)))))
       | in-Err w ↦ on_ok w.result-is Made tt
     ]
 

@@ -2,7 +2,7 @@ use Rattle.std.proofs.Common.{◌∙◌, ap, []}
 use Rattle.std.specs.FinMap as map
 use Rattle.kern_model.specs.declared.objects.Object.{Object}
 use Rattle.kern_model.specs.FileRows.{content_change}
-use Rattle.kern_model.specs.State.{State, changed}
+use Rattle.kern_model.specs.State.{State, apply_change}
 use Rattle.kern_model.proofs.KeyLaws.{oid_cmp_total, oid_cmp_exact}
 use Rattle.kern_model.proofs.MapLemmas.{get-insert_same}
 use Rattle.fd_table.proofs.Loops.{set_twice}
@@ -28,4 +28,4 @@ returns c = λ o is.
     (λ i. record s { objects = (second i).objects; object_numbers = (second i).numbers; entries = c.set_attr.ensures.entries i })
     ∙ (λ i. record s { objects = map.insert (first i).objects id (record gone { attr = c.args.attr }); object_numbers = (first i).numbers; entries = c.truncate.ensures.entries i })
     ∙ ap (λ (m : _). record s { objects = m }) (set_twice oid_cmp_total oid_cmp_exact s.objects id gone (record gone { attr = c.args.attr }))
-    ∙ ap (λ (x : State). changed x (content_change id o [] c.args.attr)) c.shared.view_is
+    ∙ ap (λ (x : State). apply_change x (content_change id o [] c.args.attr)) c.shared.view_is

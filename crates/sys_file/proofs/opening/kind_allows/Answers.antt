@@ -1,4 +1,4 @@
-use Rattle.std.proofs.Common.{◌∙◌, ◌&&◌, ap}
+use Rattle.std.proofs.Common.{◌∙◌, ◌&&◌, ap, refl}
 use Rattle.kern_model.specs.Kinds.{is_dir, is_fifo}
 use Rattle.chk_rules.proofs.Steps.{equal_refusal, refuse_goes, refuse_stops}
 use Rattle.sys_lookup.specs.declared.shared.Metadata.{Metadata}
@@ -23,4 +23,4 @@ returns c = λ s id same.
     let drains = c.both-drains.ensures ∙ (λ i. (c.is_fifo.ensures ∙ ap (λ (m : Metadata). is_fifo m.kind) same) i && c.args.flags.r) in
     refuse_goes (equal_refusal (c.is_directory.ensures ∙ ap (λ (m : Metadata). is_dir m.kind) same) (c.in_ok-refuse_if.ensures log))
     (refuse_goes (equal_refusal (c.both.ensures ∙ (λ i. drains i && c.args.flags.w)) (c.in_ok-refuse_if-2.ensures log))
-    (equal_asked drains (c.mac_write_check.ensures s id same) c.must_if.ensures))
+    (equal_asked drains refl (c.mac_write_if.ensures s id same)))

@@ -1,4 +1,4 @@
-use Rattle.std.proofs.Common.{◌∙◌, ap, sym, refl, None, unwrap_or}
+use Rattle.std.proofs.Common.{◌∙◌, ap, sym, refl, unwrap_or}
 use Rattle.std.specs.Prelude.{⊤}
 use Rattle.kern_model.specs.Entries.{is_removed}
 use Rattle.kern_model.specs.FileRows.{has_descriptions, has_free_descriptors, may_describe}

@@ -6,10 +6,10 @@ use Rattle.kern_model.specs.declared.numbers.Oid.{Oid}
 use Rattle.kern_model.specs.declared.objects.Body.TheVariants as body
 use Rattle.kern_model.specs.Create.{attr_of, creation, to_number}
 use Rattle.kern_model.specs.Descriptors.{lowest_free}
-use Rattle.kern_model.specs.FileRows.{has_descriptions, has_free_descriptors, opening}
-use Rattle.kern_model.specs.Kinds.{masked, object_with}
+use Rattle.kern_model.specs.FileRows.{has_descriptions, has_free_descriptors, description_creation}
+use Rattle.kern_model.specs.Kinds.{masked_permissions, object_with}
 use Rattle.kern_model.specs.OpenRows.{new_file, opens_made}
-use Rattle.kern_model.specs.State.{State, changed_by, process_at}
+use Rattle.kern_model.specs.State.{State, apply_changes, process_at}
 use Rattle.chk_rules.specs.CheckLog.{CheckLog}
 use Rattle.chk_rules.specs.RowSteps.{GoesOn}
 use Rattle.chk_rules.specs.declared.stop.Stop.{Stop}
@@ -53,10 +53,10 @@ returns c = λ log.
     let flags = c.args.opening.now.flags in
     let mode = unwrap_or c.args.opening.now.mode 0 in
     let label_is = c.label-label.ensures ∙ ap (λ (k : CallerView). k.process.label) c.new-caller.ensures.caller in
-    let attr_is = c.new_attr-attr.ensures ∙ (λ i. attr_of (c.new-caller.ensures.caller i).process (masked (c.unwrap_or-mode.ensures i) (c.new-caller.ensures.caller i).process.umask)) in
-    let first = c.in_ok-id.ensures.made ∙ (λ i. changed_by s (creation s (label_is i) dir name (object_with (label_is i) (attr_is i) (body.File (c.new-empty.ensures i))))) in
+    let attr_is = c.new_attr-attr.ensures ∙ (λ i. attr_of (c.new-caller.ensures.caller i).process (masked_permissions (c.unwrap_or-mode.ensures i) (c.new-caller.ensures.caller i).process.umask)) in
+    let first = c.in_ok-id.ensures.made ∙ (λ i. apply_changes s (creation s (label_is i) dir name (object_with (label_is i) (attr_is i) (body.File (c.new-empty.ensures i))))) in
     then_plays {rest = opens_made s who p flags mode dir name}
     (number_of s label_is (c.in_ok-id.ensures.step log))
-    (commits_as {changes = creation s p.label dir name (new_file p mode) ++ opening s who p id flags}
+    (commits_as {changes = creation s p.label dir name (new_file p mode) ++ description_creation s who p id flags}
     (answering c.answers.ensures (ap answer.Number (c.in_ok-fd.ensures.fd ∙ ap (λ (u : State). lowest_free (process_at u who).fds) first)))
-    (c.in_ok-fd.ensures.described ∙ ap (λ (u : State). changed_by u (opening u who (process_at u who) id flags)) first))
+    (c.in_ok-fd.ensures.described ∙ ap (λ (u : State). apply_changes u (description_creation u who (process_at u who) id flags)) first))

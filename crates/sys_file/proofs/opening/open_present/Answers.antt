@@ -5,10 +5,10 @@ use Rattle.kern_model.specs.declared.numbers.Oid.{Oid}
 use Rattle.kern_model.specs.declared.numbers.Pid.{Pid}
 use Rattle.kern_model.specs.declared.calls.OpenFlags.{OpenFlags}
 use Rattle.kern_model.specs.declared.objects.Object.{Object}
-use Rattle.kern_model.specs.FileRows.{opening}
-use Rattle.kern_model.specs.OpenRows.{emptying}
+use Rattle.kern_model.specs.FileRows.{description_creation}
+use Rattle.kern_model.specs.OpenRows.{truncation_if}
 use Rattle.kern_model.specs.Keys.{oid_cmp}
-use Rattle.kern_model.specs.State.{State, Process, changed_by, object_at, process_at}
+use Rattle.kern_model.specs.State.{State, Process, apply_changes, object_at, process_at}
 use Rattle.std.proofs.Common.{◌≡◌}
 use Rattle.std.specs.FinMap.{FinMap}
 use Rattle.fs_nodes.specs.Nodes.{IsFile}
@@ -24,8 +24,8 @@ still s t id (Some attr) same can = subst (λ (m : FinMap oid_cmp Object). IsFil
 
 -- the content changes before the description is made or after it
 either : (s : State) (who : Pid) (p : Process) (id : Oid) (flags : OpenFlags) (emptied : Option Attr) → (
-    let u = changed_by s (opening s who p id flags) in
-    changed_by u (emptying id (object_at u id) emptied) ≡ changed_by s (emptying id (object_at s id) emptied ++ opening s who p id flags))
+    let u = apply_changes s (description_creation s who p id flags) in
+    apply_changes u (truncation_if id (object_at u id) emptied) ≡ apply_changes s (truncation_if id (object_at s id) emptied ++ description_creation s who p id flags))
 either s who p id flags None = refl
 either s who p id flags (Some attr) = refl
 
@@ -41,5 +41,5 @@ returns c = λ log.
     let who = c.args.who.now in
     let p = process_at s who in
     let id = c.args.id.now in
-    commits_as {changes = emptying id (object_at s id) c.args.emptied ++ opening s who p id c.args.flags} (answering c.answers.ensures (ap answer.Number c.in_ok-fd.ensures.fd))
-    (c.set_content.ensures ∙ ap (λ (u : State). changed_by u (emptying id (object_at u id) c.args.emptied)) c.in_ok-fd.ensures.described ∙ either s who p id c.args.flags c.args.emptied)
+    commits_as {changes = truncation_if id (object_at s id) c.args.emptied ++ description_creation s who p id c.args.flags} (answering c.answers.ensures (ap answer.Number c.in_ok-fd.ensures.fd))
+    (c.set_content.ensures ∙ ap (λ (u : State). apply_changes u (truncation_if id (object_at u id) c.args.emptied)) c.in_ok-fd.ensures.described ∙ either s who p id c.args.flags c.args.emptied)

@@ -2,10 +2,10 @@ use Rattle.std.proofs.Common.{◌≡◌, ◌∙◌, ap, subst, IfOk, OnOk}
 use Rattle.lab_lattice.specs.Label.{Label}
 use Rattle.kern_model.specs.declared.objects.Attr.{Attr}
 use Rattle.kern_model.specs.declared.objects.Body.TheVariants as body
-use Rattle.kern_model.specs.Create.{attr_of, drawing, has_object_number}
+use Rattle.kern_model.specs.Create.{attr_of, object_addition, has_object_number}
 use Rattle.kern_model.specs.FileRows.{pipe_mode}
 use Rattle.kern_model.specs.Kinds.{object_with}
-use Rattle.kern_model.specs.State.{changed_by, next_object, process_at}
+use Rattle.kern_model.specs.State.{apply_changes, next_object, process_at}
 use Rattle.proc_table.specs.Procs.{creds_of}
 use Rattle.sys_lookup.specs.Callers.{CallerView}
 use Rattle.sys_file.proofs.pipes.create_pipe.Goals as goal
@@ -26,4 +26,4 @@ returns-clause-made c =
     let creds = c.creds.view_is ∙ c.creds-creds.ensures ∙ ap (λ (k : CallerView). creds_of k.process) c.new-caller.ensures.caller in
     let attr_is : record { owner = c.creds.inside.ids.euid; group = c.creds.inside.ids.egid; mode = pipe_mode; caps = c.none.result } ≡ attr_of p pipe_mode =
     λ i. record { owner = (creds i).ids.euid; group = (creds i).ids.egid; mode = pipe_mode; caps = c.none.ensures i } in
-    subst (λ (x : Label × Attr). OnOk c.create.result (c.create.new.self ≡ changed_by s (drawing s x.0 (object_with x.0 x.1 body.Pipe)))) (λ i. (label_is i, attr_is i)) c.create.ensures.drawn
+    subst (λ (x : Label × Attr). OnOk c.create.result (c.create.new.self ≡ apply_changes s (object_addition s x.0 (object_with x.0 x.1 body.Pipe)))) (λ i. (label_is i, attr_is i)) c.create.ensures.drawn

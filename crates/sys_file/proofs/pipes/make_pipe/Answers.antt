@@ -3,8 +3,8 @@ use Rattle.std.specs.FinMap as map
 use Rattle.kern_model.specs.declared.calls.Answer.TheVariants as answer
 use Rattle.kern_model.specs.declared.limits.TheConstants.{MAX_DESCRIPTIONS, MAX_DESCRIPTORS}
 use Rattle.kern_model.specs.Descriptors.{lowest_free, open_count, with_descriptor}
-use Rattle.kern_model.specs.FileRows.{has_descriptions, has_free_descriptors, opening}
-use Rattle.kern_model.specs.State.{State, Process, changed_by, drawn, next_description, process_at}
+use Rattle.kern_model.specs.FileRows.{has_descriptions, has_free_descriptors, description_creation}
+use Rattle.kern_model.specs.State.{State, Process, apply_changes, last_drawn, next_description, process_at}
 use Rattle.kern_model.proofs.KeyLaws.{pid_cmp_total}
 use Rattle.kern_model.proofs.MapLemmas.{get-insert_same}
 use Rattle.sys_file.proofs.PipeLemmas.{both_are, drawn_after, one_left, one_less, reader_is, reader_made, with_reader}
@@ -25,7 +25,7 @@ describe-requires-clause-left c =
     let s = c.args.shared.now in
     let who = c.args.who.now in
     ap (λ (x : State). has_descriptions x (process_at x who) 1) c.in_ok-id.ensures.made
-    ∙ one_less (drawn s.description_numbers (process_at s who).label) MAX_DESCRIPTIONS c.requires.left
+    ∙ one_less (last_drawn s.description_numbers (process_at s who).label) MAX_DESCRIPTIONS c.requires.left
 
 pub describe-requires-2-clause-living : goal.describe-requires-2-clause-living
 describe-requires-2-clause-living c =
@@ -67,6 +67,6 @@ returns-clause-piped c =
     let p = process_at s c.args.who.now in
     let one = reader_made s c.args.who.now c.in_ok-id.id c.in_ok-id.ensures.made c.in_ok-reader.ensures.described c.end_flags.ensures in
     c.in_ok-writer.ensures.described
-    ∙ (λ i. changed_by (one i) (opening (one i) c.args.who.now (process_at (one i) c.args.who.now) c.in_ok-id.id (c.end_flags-2.ensures i)))
-    ∙ ap (λ (x : Process). let u = with_reader s c.args.who.now p c.in_ok-id.id in changed_by u (opening u c.args.who.now x c.in_ok-id.id (end_flags false))) (reader_is s c.args.who.now p c.in_ok-id.id)
+    ∙ (λ i. apply_changes (one i) (description_creation (one i) c.args.who.now (process_at (one i) c.args.who.now) c.in_ok-id.id (c.end_flags-2.ensures i)))
+    ∙ ap (λ (x : Process). let u = with_reader s c.args.who.now p c.in_ok-id.id in apply_changes u (description_creation u c.args.who.now x c.in_ok-id.id (end_flags false))) (reader_is s c.args.who.now p c.in_ok-id.id)
     ∙ both_are s c.args.who.now p c.in_ok-id.id c.in_ok-id.ensures.id

@@ -1,11 +1,10 @@
-use Rattle.std.proofs.Common.{refl, rules, subst, ℕ, List, ℤ, w64}
+use Rattle.std.proofs.Common.{rules, subst, ℕ, List, ℤ, w64}
 use Rattle.std.proofs.lemmas.Int.{to_z-of_z}
-use Rattle.kern_model.specs.Arguments.{has_names}
 use Rattle.kern_model.specs.FileRows.{fstat_row, lseek_row, write_row}
 use Rattle.kern_model.specs.State.{process_at}
 use Rattle.sys_lookup.specs.Callers.{CallerView}
 use Rattle.sys_lookup.specs.PlaysRow.{PlaysRow}
-use Rattle.sys_lookup.proofs.PlayingLemmas.{plays_as, names_as}
+use Rattle.sys_lookup.proofs.PlayingLemmas.{plays_as}
 use Rattle.sys_file.proofs.playing.play.Goals as goal
 
 pub returns-in-OpenPath-clause-played : goal.returns-in-OpenPath-clause-played

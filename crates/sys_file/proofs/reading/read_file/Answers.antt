@@ -2,7 +2,7 @@ use Rattle.std.proofs.Common.{◌≡◌, ◌∙◌, ◌+◌, ◌-◌, ap, sym, r
 use Rattle.std.specs.FinMap as map
 use Rattle.std.proofs.lemmas.List.{length-drop, length-take}
 use Rattle.kern_model.specs.FileRows.{from_file, offset_change}
-use Rattle.kern_model.specs.State.{changed}
+use Rattle.kern_model.specs.State.{apply_change}
 use Rattle.sys_lookup.proofs.PlayLemmas.{commits_as, no_memory_row, refuse_plays}
 use Rattle.sys_lookup.proofs.RefuseLemmas.{lets_on}
 use Rattle.sys_lookup.specs.PlaysRow.{PlaysRow}
@@ -42,4 +42,4 @@ returns c = λ log.
     refuse_plays (lets_on refl)
     (subst (λ (taken : List ℕ). PlaysRow s log (from_file f taken) (Ok c.answers.result) c.set_offset.new.shared log) is
     (commits_as {changes = offset_change f (f.description.offset + length c.in_ok-bytes.bytes) ∷ []} c.answers.ensures
-    (c.set_offset.ensures f c.requires.open ∙ (λ i. changed s (offset_change f ((c.opened.view_is i).description.offset + length (c.items.ensures i)))))))
+    (c.set_offset.ensures f c.requires.open ∙ (λ i. apply_change s (offset_change f ((c.opened.view_is i).description.offset + length (c.items.ensures i)))))))

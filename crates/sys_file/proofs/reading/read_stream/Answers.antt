@@ -4,7 +4,7 @@ use Rattle.std.proofs.lemmas.List.{drop_min, length-take, length-take-le}
 use Rattle.kern_model.specs.Descriptors.{any_open}
 use Rattle.kern_model.specs.declared.numbers.Oid.{Oid}
 use Rattle.kern_model.specs.FileRows.{comes_out, open_object}
-use Rattle.kern_model.specs.State.{State, SetObject, changed}
+use Rattle.kern_model.specs.State.{State, SetObject, apply_change}
 use Rattle.kern_model.specs.Valid.{IsValid}
 use Rattle.fs_nodes.specs.Nodes.{IsStream}
 use Rattle.sys_lookup.proofs.PlayLemmas.{no_memory_row}
@@ -78,7 +78,7 @@ returns c = λ log.
           plays_result (w.result-is ∙ ap (λ (e : Effect). Ok e) w.answers.ensures)
           (taken s log f o is c.args.n c.in_ok-bytes.bytes _ ((λ i. length o.bytes == 0 && any_open s (λ d. d.writes) (sym id i)) ∙ more) bytes
           ((λ i. record s { objects = w.in-Ok.ensures.left o there i; object_numbers = w.in-Ok.ensures.rest.0 i; entries = w.in-Ok.ensures.rest.1 i })
-          ∙ (λ i. changed s (SetObject (id i) (record o { bytes = rest i })))))
+          ∙ (λ i. apply_change s (SetObject (id i) (record o { bytes = rest i })))))
       | in-Err-Again w ↦
           let waiting = no_value empty (c.pipe_take.ensures.count o there) (w.in-Err-Again.is ∙ ap Err w.in-Err-Again.field-0-is) in
           plays_result w.result-is

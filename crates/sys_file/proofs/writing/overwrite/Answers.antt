@@ -1,9 +1,9 @@
 use Rattle.std.proofs.Common.{◌∙◌, ap, sym, arith, length, Err}
 use Rattle.std.specs.FinMap as map
 use Rattle.kern_model.specs.declared.objects.Object.{Object}
-use Rattle.kern_model.specs.Descriptors.{opened}
+use Rattle.kern_model.specs.Descriptors.{open_description}
 use Rattle.kern_model.specs.FileRows.{content_change, written_over}
-use Rattle.kern_model.specs.State.{State, changed, process_at}
+use Rattle.kern_model.specs.State.{State, apply_change, process_at}
 use Rattle.kern_model.proofs.KeyLaws.{oid_cmp_exact, oid_cmp_total}
 use Rattle.kern_model.proofs.MapLemmas.{get-insert_same}
 use Rattle.fd_table.proofs.Loops.{set_twice}
@@ -56,8 +56,8 @@ returns-in-Ok-clause-written c =
     (λ i. record s { objects = (set i).objects; object_numbers = (set i).numbers; entries = c.set_attr.ensures.entries i })
     ∙ (λ i. record s { objects = map.insert (written i).objects id last; object_numbers = (written i).numbers; entries = c.in-Ok.ensures.entries i })
     ∙ (λ i. record s { objects = set_twice oid_cmp_total oid_cmp_exact s.objects id new last i })
-    ∙ (λ i. changed (c.shared.view_is i) (content_change id (sym same i) (written_over (sym same i).bytes c.args.at c.args.bytes.now) c.args.attr))
+    ∙ (λ i. apply_change (c.shared.view_is i) (content_change id (sym same i) (written_over (sym same i).bytes c.args.at c.args.bytes.now) c.args.attr))
 
 pub returns-in-Ok-clause-open : goal.returns-in-Ok-clause-open
-unfolding opened
-returns-in-Ok-clause-open c = λ who fd. ap (λ (x : State). opened x (process_at x who) fd) c.shared.view_is
+unfolding open_description
+returns-in-Ok-clause-open c = λ who fd. ap (λ (x : State). open_description x (process_at x who) fd) c.shared.view_is

@@ -1,6 +1,6 @@
 use Rattle.std.proofs.Common.{◌∙◌, ◌+◌, ap, sym, subst, refl, length, is_some, Ok}
 use Rattle.kern_model.specs.FileRows.{offset_change, open_object, put_in, write_opened, writes_at}
-use Rattle.kern_model.specs.State.{changed}
+use Rattle.kern_model.specs.State.{apply_change}
 use Rattle.fs_nodes.specs.Nodes.{IsFile}
 use Rattle.sys_lookup.proofs.PlayLemmas.{no_memory_row, stops_row, then_plays}
 use Rattle.sys_lookup.specs.declared.effect.Effect.{Effect}
@@ -96,11 +96,11 @@ returns c =
     let log = c.opened_for.new.checks in
     let t = c.move_after-2.new.shared in
     let found = c.in_ok-overwrite.ensures.open c.args.who.now c.args.fd ∙ open_of c.args.fd _ c.new-caller.ensures.caller c.in_ok-opened.ensures.found in
-    let written = c.in_ok-overwrite.ensures.written ∙ (λ i. changed s (put_in bytes (c.opened.view_is i) (open_object s (c.opened.view_is i)) at attr)) in
+    let written = c.in_ok-overwrite.ensures.written ∙ (λ i. apply_change s (put_in bytes (c.opened.view_is i) (open_object s (c.opened.view_is i)) at attr)) in
     access_plays c.new-caller.ensures.caller Write c.args.fd (write_opened s bytes) c.in_ok-opened.ensures.step
     (plays_else _ (stream_is c.new-caller.ensures.caller c.in_ok-opened.opened c.in_ok-opened.ensures.object c.is_stream.ensures c.if-is_stream.false)
     (then_plays {rest = writes_at bytes f (open_object s f)} (c.in_ok-at.ensures.step log)
     (subst (λ (e : Effect). PlaysRow s log (writes_at bytes f (open_object s f) at) (Ok e) t c.kept_attr.new.checks) (sym c.move_after-2.ensures.effect)
     (some_written s bytes f (open_object s f) at log c.kept_attr.new.checks attr t (sym c.is_empty.ensures ∙ c.if-is_empty.false)
     (c.in_ok-attr.ensures s f.description.object (metadata_is c.new-caller.ensures.caller c.in_ok-opened.ensures.object))
-    (c.move_after-2.ensures.moved f found ∙ ap (λ x. changed x (offset_change f (at + length bytes))) written)))))
+    (c.move_after-2.ensures.moved f found ∙ ap (λ x. apply_change x (offset_change f (at + length bytes))) written)))))

@@ -1,6 +1,6 @@
 use Rattle.std.proofs.Common.{◌∙◌, ap, sym, subst, not}
 use Rattle.kern_model.specs.Entries.{is_removed}
-use Rattle.kern_model.specs.State.{SetEntry, State, changed, look}
+use Rattle.kern_model.specs.State.{SetEntry, State, apply_change, look}
 use Rattle.kern_model.specs.Valid.{IsDir}
 use Rattle.chk_rules.proofs.Steps.{equal_refusal, gives, refuse_goes, refuse_stops}
 use Rattle.fs_dirs.specs.Tree.{MayBeAdded}
@@ -42,4 +42,4 @@ returns-clause-step c = λ log.
 pub returns-clause-made : goal.returns-clause-made
 returns-clause-made c =
     c.in_ok-add_entry.ensures
-    ∙ (λ i. changed (c.in_ok-id.ensures.drawn i) (SetEntry (c.args.spot.now.0, c.args.spot.now.1) (c.in_ok-id.ensures.id i)))
+    ∙ (λ i. apply_change (c.in_ok-id.ensures.drawn i) (SetEntry (c.args.spot.now.0, c.args.spot.now.1) (c.in_ok-id.ensures.id i)))

@@ -3,7 +3,7 @@ use Rattle.lab_lattice.specs.Label.{Label}
 use Rattle.kern_model.specs.declared.objects.Attr.{Attr}
 use Rattle.kern_model.specs.declared.numbers.Pid.{Pid}
 use Rattle.kern_model.specs.Create.{attr_of}
-use Rattle.kern_model.specs.Kinds.{masked, object_with}
+use Rattle.kern_model.specs.Kinds.{masked_permissions, object_with}
 use Rattle.kern_model.specs.State.{State, Process, process_at}
 use Rattle.kern_model.specs.TreeRows.{make_at, make_object, make_spot, put_object}
 use Rattle.sys_lookup.specs.Callers.{CallerView, caller_in}
@@ -13,10 +13,10 @@ use Rattle.sys_lookup.proofs.making.make.Goals as goal
 
 -- the label and the attributes of what a process makes with a mode
 abbrev like : Process → ℕ → Label × Attr
-like p mode = (p.label, attr_of p (masked mode p.umask))
+like p mode = (p.label, attr_of p (masked_permissions mode p.umask))
 
 -- the same, as they are had from the caller
-like_is : (s : State) (who : Pid) (k : CallerView) (mode : ℕ) (label : Label) (attr : Attr) → label ≡ k.process.label → attr ≡ attr_of k.process (masked mode k.process.umask) → k ≡ caller_in s who → ◌≡◌ {A = Label × Attr} (label, attr) (like (process_at s who) mode)
+like_is : (s : State) (who : Pid) (k : CallerView) (mode : ℕ) (label : Label) (attr : Attr) → label ≡ k.process.label → attr ≡ attr_of k.process (masked_permissions mode k.process.umask) → k ≡ caller_in s who → ◌≡◌ {A = Label × Attr} (label, attr) (like (process_at s who) mode)
 like_is s who k mode label attr label_is attr_is same = (λ i. (label_is i, attr_is i)) ∙ ap (λ (x : CallerView). like x.process mode) same
 
 pub returns-in_err-spot-clause-played : goal.returns-in_err-spot-clause-played

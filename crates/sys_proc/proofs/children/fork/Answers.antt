@@ -4,7 +4,7 @@ use Rattle.std.proofs.lemmas.Bool.{le-leb, leb-true}
 use Rattle.kern_model.specs.declared.limits.TheConstants.{MAX_PROCS}
 use Rattle.kern_model.specs.declared.numbers.Pid.{Pid}
 use Rattle.kern_model.specs.ProcessRows.{child_of, fork_row}
-use Rattle.kern_model.specs.State.{State, drawn}
+use Rattle.kern_model.specs.State.{State, last_drawn}
 use Rattle.kern_model.specs.Valid.{IsThere, IsValid}
 use Rattle.kern_model.proofs.KeyLaws.{pid_cmp_total}
 use Rattle.kern_model.proofs.MapLemmas.{get-insert_same}
@@ -45,7 +45,7 @@ returns-in-Err-Full c = λ log.
     let h = c.shared.inside in
     let who = c.args.who.now in
     stands_plays h c.args.shared.now c.shared.view_is who c.requires.living (λ x. fork_row x who) (λ q is.
-    let full : nat_le MAX_PROCS (drawn h.procs.numbers q.label) ≡ true = le-leb _ _ ((c.in-Err-Full.ensures.full q is).0 (ap (λ (e : ProcError). Err e) c.in-Err-Full.field-0-is)) in
+    let full : nat_le MAX_PROCS (last_drawn h.procs.numbers q.label) ≡ true = le-leb _ _ ((c.in-Err-Full.ensures.full q is).0 (ap (λ (e : ProcError). Err e) c.in-Err-Full.field-0-is)) in
     refuses_child h log who q c.fork.new.self full c.in-Err-Full.ensures.err)
 
 pub returns-in-Err-NoMemory : goal.returns-in-Err-NoMemory
@@ -92,8 +92,8 @@ returns c = λ log.
     let child : Pid = c.in-Ok.child in
     stands_plays h c.args.shared.now c.shared.view_is who c.requires.living (λ x. fork_row x who) (λ q is.
     let full = c.in-Ok.ensures.full q is in
-    let left : nat_le MAX_PROCS (drawn h.procs.numbers q.label) ≡ false =
-    elim (nat_le MAX_PROCS (drawn h.procs.numbers q.label)) as (λ b. nat_le MAX_PROCS (drawn h.procs.numbers q.label) ≡ b → b ≡ false) [
+    let left : nat_le MAX_PROCS (last_drawn h.procs.numbers q.label) ≡ false =
+    elim (nat_le MAX_PROCS (last_drawn h.procs.numbers q.label)) as (λ b. nat_le MAX_PROCS (last_drawn h.procs.numbers q.label) ≡ b → b ≡ false) [
       | true ↦ λ t. let no : ◌≡◌ {A = Result Pid ProcError} (Ok child) (Err Full) = full.1 (leb-true _ _ t) in absurd cc
       | false ↦ λ _. refl
     ] refl in

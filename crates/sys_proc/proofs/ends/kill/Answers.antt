@@ -3,7 +3,7 @@ use Rattle.std.specs.FinMap as map
 use Rattle.kern_model.specs.declared.calls.Errno.TheVariants.{ESRCH}
 use Rattle.kern_model.specs.Row.{Need}
 use Rattle.kern_model.specs.Rules.{mac_write_process}
-use Rattle.kern_model.specs.ProcessRows.{asks_signal, kill_row, send, signalled}
+use Rattle.kern_model.specs.ProcessRows.{asks_signal, kill_row, send, signal_row}
 use Rattle.kern_model.specs.State.{Process, State, process_at}
 use Rattle.chk_rules.proofs.Steps.{equal_check}
 use Rattle.chk_rules.specs.CheckLog.{CheckLog}
@@ -49,11 +49,11 @@ returns-in_err-may_signal c =
     let p = process_at s c.args.who.now in
     looked (goal.at.returns-in_err-may_signal c).In_ok-must
     (sends s target receiver c.in-Some.ensures p c.args.signal
-    (stops_row {rest = λ _. signalled s target (process_at s target) c.args.signal} c.from_residual-in_err-may_signal.result c.from_residual-in_err-may_signal.ensures.1 refl
+    (stops_row {rest = λ _. signal_row s target (process_at s target) c.args.signal} c.from_residual-in_err-may_signal.result c.from_residual-in_err-may_signal.ensures.1 refl
     (asks_receiver s target receiver c.in-Some.ensures p (step_called (λ k rest. asks_signal k.process target receiver (rest tt)) c.new-sender.ensures.caller c.in_err-may_signal.ensures))))
 
-pub signalled-requires-clause-living : goal.signalled-requires-clause-living
-signalled-requires-clause-living c = receiver_lives c.args.shared.now c.args.target.now c.in-Some.receiver.now c.in-Some.ensures
+pub send_signal-requires-clause-living : goal.send_signal-requires-clause-living
+send_signal-requires-clause-living c = receiver_lives c.args.shared.now c.args.target.now c.in-Some.receiver.now c.in-Some.ensures
 
 pub returns : goal.returns
 returns c =
@@ -63,6 +63,6 @@ returns c =
     let p = process_at s c.args.who.now in
     looked (goal.at.returns c).In_ok-must
     (sends s target receiver c.in-Some.ensures p c.args.signal
-    (then_plays {rest = λ _. signalled s target (process_at s target) c.args.signal}
+    (then_plays {rest = λ _. signal_row s target (process_at s target) c.args.signal}
     (asks_receiver s target receiver c.in-Some.ensures p (step_called (λ k rest. asks_signal k.process target receiver (rest tt)) c.new-sender.ensures.caller c.in_ok-may_signal.ensures))
-    (c.signalled.ensures c.may_signal.new.checks)))
+    (c.send_signal.ensures c.may_signal.new.checks)))

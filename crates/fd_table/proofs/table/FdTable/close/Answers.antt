@@ -1,7 +1,7 @@
 use Rattle.std.proofs.Common.{ap, sym, ◌∙◌, subst}
 use Rattle.kern_model.specs.Valid.{IsThere}
 use Rattle.fd_table.specs.Descriptions.{descriptions_of}
-use Rattle.fd_table.specs.Files.{OpenFiles, drained}
+use Rattle.fd_table.specs.Files.{OpenFiles, objects_after_close}
 use Rattle.fd_table.proofs.Openings.{held_closed, shared_there, table_closed}
 use Rattle.fd_table.proofs.table.FdTable.close.Goals as goal
 
@@ -25,4 +25,4 @@ returns-clause-left g c = table_closed c.self.inside.processes c.self.inside.des
 pub returns-clause-drained : goal.returns-clause-drained
 returns-clause-drained g c =
     let objects = g.B.Buffers.objects c.args.buffers.now in
-    c.let_go.ensures.drained ∙ ap (λ (t : OpenFiles). drained t.descriptions (descriptions_of c.let_go.new.descriptions) objects) c.self.view_is
+    c.let_go.ensures.drained ∙ ap (λ (t : OpenFiles). objects_after_close t.descriptions (descriptions_of c.let_go.new.descriptions) objects) c.self.view_is

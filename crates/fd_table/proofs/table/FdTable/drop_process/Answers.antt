@@ -6,7 +6,7 @@ use Rattle.std.proofs.Common.{ap, sym, ◌∙◌, subst, arith, rules}
 use Rattle.lab_lattice.specs.Label.{label_cmp}
 use Rattle.fd_table.specs.declared.table.FdTable.TheInside.{Inside}
 use Rattle.fd_table.specs.Descriptions.{SharedTable, description_of, descriptions_of}
-use Rattle.fd_table.specs.Files.{AreHeld, OpenFiles, drained, left_with}
+use Rattle.fd_table.specs.Files.{AreHeld, OpenFiles, objects_after_close, left_with}
 use Rattle.fd_table.specs.Fds.{AllFds}
 use Rattle.kern_model.proofs.KeyLaws.{pid_cmp_total, pid_cmp_exact}
 use Rattle.kern_model.proofs.MapLemmas.{remove-absent}
@@ -38,7 +38,7 @@ returns-in_default-clause-left g c =
 pub returns-in_default-clause-drained : goal.returns-in_default-clause-drained
 returns-in_default-clause-drained g c =
     let objects = g.B.Buffers.objects c.args.buffers.now in
-    sym (ap (λ (t : OpenFiles). drained t.descriptions (descriptions_of c.self.inside.descriptions) objects) (sym c.self.view_is) ∙ drained_same (descriptions_of c.self.inside.descriptions) objects)
+    sym (ap (λ (t : OpenFiles). objects_after_close t.descriptions (descriptions_of c.self.inside.descriptions) objects) (sym c.self.view_is) ∙ drained_same (descriptions_of c.self.inside.descriptions) objects)
 
 pub loop-fd-init : goal.loop-fd-init
 loop-fd-init g c =
@@ -79,7 +79,7 @@ loop-fd-preserved g c =
             numbers = ap (λ (x : Inside). x.numbers) w.self-inside-is ∙ c.loop-fd.invariant.numbers;
             gone = let_go_next t0 who own n shared objects0 objects are did (sym w.in-Some-get.ensures.did) there.value there.is
                 c.match-get.self-inside.descriptions (now ∙ w.let_go.ensures.left there.value there.is) (g.B.Buffers.objects c.match-get.buffers)
-                (ap g.B.Buffers.objects w.buffers-is ∙ w.let_go.ensures.drained ∙ ap (λ (m : SharedTable). drained (descriptions_of shared) (descriptions_of m) objects) (sym now));
+                (ap g.B.Buffers.objects w.buffers-is ∙ w.let_go.ensures.drained ∙ ap (λ (m : SharedTable). objects_after_close (descriptions_of shared) (descriptions_of m) objects) (sym now));
             rest = search rules;
           }
       | in_default-get w ↦ record {

@@ -5,7 +5,7 @@ use Rattle.std.proofs.Common.{ap, sym, ◌∙◌, subst}
 use Rattle.slab.specs.Slab.{Slab, Updates}
 use Rattle.lab_lattice.specs.Label.{Label, label_cmp}
 use Rattle.kern_model.specs.declared.numbers.Oid.{Oid}
-use Rattle.kern_model.specs.State.{drawn}
+use Rattle.kern_model.specs.State.{last_drawn}
 use Rattle.kern_model.specs.declared.objects.Object.{Object}
 use Rattle.kern_model.specs.Keys.{oid_cmp}
 use Rattle.fs_nodes.specs.Nodes.{NodeKeys, NodeSlots, NodeTable, IsPlaced, objects_in, with_new}
@@ -23,7 +23,7 @@ same_table slots new keys numbers t same view =
 
 -- the table after a new object, by its parts
 new_table : {objects' : FinMap oid_cmp Object} {numbers' : FinMap label_cmp ℕ} (numbers : FinMap label_cmp ℕ) (objects : FinMap oid_cmp Object) (t : NodeTable) (id : Oid) (o : Object)
-    → id ≡ record { label = o.label; n = drawn numbers o.label + 1 } → ◌≡◌ {A = NodeTable} (record { objects = objects; numbers = numbers }) t
+    → id ≡ record { label = o.label; n = last_drawn numbers o.label + 1 } → ◌≡◌ {A = NodeTable} (record { objects = objects; numbers = numbers }) t
     → objects' ≡ map.insert objects id o → numbers' ≡ map.insert numbers id.label id.n → ◌≡◌ {A = NodeTable} (record { objects = objects'; numbers = numbers' }) (with_new t o.label o)
 new_table numbers objects t id o is table objects_are numbers_are =
     (λ i. record { objects = objects_are i; numbers = numbers_are i })
@@ -51,8 +51,8 @@ some_match : {X : Type 0} (P : Type 0) (Q : X → Type 0) (o : Option X) (x : X)
 some_match P Q o x e h = subst (λ o. MatchOption o P Q) e h
 
 -- the number that is drawn next
-drawn_next : (numbers : FinMap label_cmp ℕ) (label : Label) (id : Oid) → id ≡ record { label = label; n = drawn numbers label + 1 } → id.n ≡ drawn numbers id.label + 1
-drawn_next numbers label id is = subst (λ (i : Oid). i.n ≡ drawn numbers i.label + 1) (sym is) refl
+drawn_next : (numbers : FinMap label_cmp ℕ) (label : Label) (id : Oid) → id ≡ record { label = label; n = last_drawn numbers label + 1 } → id.n ≡ last_drawn numbers id.label + 1
+drawn_next numbers label id is = subst (λ (i : Oid). i.n ≡ last_drawn numbers i.label + 1) (sym is) refl
 
 pub invariant_of-self-2 : goal.invariant_of-self-2
 invariant_of-self-2 c =

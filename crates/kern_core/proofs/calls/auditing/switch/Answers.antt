@@ -1,6 +1,6 @@
 use Rattle.std.proofs.Common.{◌∙◌, ap, subst, sym}
 use Rattle.std.specs.FinMap as map
-use Rattle.kern_model.specs.State.{State, SetProcess, changed}
+use Rattle.kern_model.specs.State.{State, SetProcess, apply_change}
 use Rattle.kern_model.proofs.StateLemmas.{process_there}
 use Rattle.proc_table.specs.Procs.{ProcTable}
 use Rattle.sys_lookup.specs.Owners.{HasOwners}
@@ -25,7 +25,7 @@ returns c =
     let set = c.set_audited.ensures q.process q.is in
     (λ i. record (state_of h) { procs = with_fds (set i).procs h.fds.processes; process_numbers = (set i).numbers })
     ∙ (λ i. record (state_of h) { procs = with_fds-process h.procs.procs h.fds.processes c.args.who.now (record (q.process) { audited = on }) i })
-    ∙ (λ i. changed (c.shared.view_is i) (SetProcess c.args.who.now (record (q.same i) { audited = on })))
+    ∙ (λ i. apply_change (c.shared.view_is i) (SetProcess c.args.who.now (record (q.same i) { audited = on })))
 
 pub invariant_of-shared : goal.invariant_of-shared
 invariant_of-shared c =

@@ -5,7 +5,7 @@ use Rattle.std.specs.FinMap.{FinMap}
 use Rattle.lab_lattice.specs.Label.{label_cmp}
 use Rattle.kern_model.specs.declared.records.Rec.{Rec}
 use Rattle.kern_model.specs.declared.world.WorldProc.{WorldProc}
-use Rattle.kern_model.specs.Boot.{boot_processes, nothing, started}
+use Rattle.kern_model.specs.Boot.{boot_processes, nothing, boot_recs_from}
 use Rattle.kern_model.specs.State.{State}
 use Rattle.kern_core.specs.Starts.{CanStart}
 use Rattle.kern_core.specs.Kernel.{state_of}
@@ -36,4 +36,4 @@ pub returns-clause-recs : goal.returns-clause-recs
 returns-clause-recs c =
     let loaded_is = c.in_ok-shared.ensures in
     let procs : c.items.result.now ≡ c.args.world.now.procs = c.items.ensures in
-    subst (λ (rs : List Rec). IfOk c.start.result (λ b. b.1 ≡ rs)) (λ i. started (loaded_is i) (procs i)) c.start.ensures.recs
+    subst (λ (rs : List Rec). IfOk c.start.result (λ b. b.1 ≡ rs)) (λ i. boot_recs_from (loaded_is i) (procs i)) c.start.ensures.recs

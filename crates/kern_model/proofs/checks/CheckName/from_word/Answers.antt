@@ -5,12 +5,12 @@ use Rattle.std.proofs.lemmas.Iterator.Consumers.{YieldsList-from_copied}
 use Rattle.std.proofs.lemmas.Iterator.Search.{find_from_yields_List}
 use Rattle.std.specs.Cmp.Lexicographic.{pointwise}
 use Rattle.kern_model.specs.Names.{check_word}
-use Rattle.kern_model.specs.Named.{named, all_checks}
+use Rattle.kern_model.specs.Named.{find_named, all_checks}
 use Rattle.kern_model.proofs.NamedLaws.{found_by, check_round_trip}
 use Rattle.kern_model.proofs.checks.CheckName.from_word.Goals as goal
 
 pub returns-clause-exact : goal.returns-clause-exact
-unfolding named
+unfolding find_named
 returns-clause-exact c =
     let found = find_from_yields_List (λ x. pointwise ◌==◌ c.args.word.now (check_word x)) _ _ c.find.result c.find.ensures.ran (YieldsList-from_copied (YieldsList-from_slice all_checks cc)) (λ x b q k. search (rules, tests)) in
     found_by check_word all_checks c.args.word.now c.find.result check_round_trip (sym (option_map_id c.find.result) ∙ found)

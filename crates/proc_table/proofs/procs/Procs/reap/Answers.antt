@@ -7,7 +7,7 @@ use Rattle.kern_model.specs.declared.numbers.Pid.{Pid}
 use Rattle.kern_model.specs.Keys.{pid_cmp}
 use Rattle.kern_model.specs.State.{Process}
 use Rattle.num_table.proofs.Outcomes.{none_match, some_match, where_err}
-use Rattle.proc_table.specs.Procs.{ProcTable, TakesEnded, has_living_child, reaped, with_process}
+use Rattle.proc_table.specs.Procs.{ProcTable, TakesEnded, has_living_child, wait_result, with_process}
 use Rattle.proc_table.proofs.ReapLemmas.{a_child, no_child, none_taken, taken_kept}
 use Rattle.proc_table.proofs.procs.Procs.reap.Goals.{in-Some-first, in-None}
 use Rattle.proc_table.proofs.procs.Procs.reap.Goals as goal
@@ -28,7 +28,7 @@ pub returns-in-Some-clause-answer : goal.returns-in-Some-clause-answer
 returns-in-Some-clause-answer c = λ p is.
     let there = ap (λ (t : ProcTable). map.get t.procs c.args.who.now) c.self.view_is ∙ is in
     let list : p.ended ≡ c.in-Some.first ∷ (c.take_ended.ensures p there).left = some_match _ _ c.take_ended.result c.in-Some.first c.in-Some.is (c.take_ended.ensures p there).list in
-    ap (λ (l : List (Pid × Ending)). reaped l (has_living_child c.args.self.now.procs c.args.who.now)) (sym list)
+    ap (λ (l : List (Pid × Ending)). wait_result l (has_living_child c.args.self.now.procs c.args.who.now)) (sym list)
 
 pub returns-in-Some-clause-taken : goal.returns-in-Some-clause-taken
 returns-in-Some-clause-taken c = λ p is.
@@ -48,10 +48,10 @@ returns-clause-answer c = λ p is.
     let taken = c.take_ended.ensures p there in
     let list : p.ended ≡ [] = (none_match _ _ c.take_ended.result c.in_default.is taken.list).0 in
     let same = sym (ap (λ (t : ProcTable). has_living_child t.procs who) c.self.view_is) in
-    let none = ap (λ (l : List (Pid × Ending)). reaped l (has_living_child c.args.self.now.procs who)) list in
+    let none = ap (λ (l : List (Pid × Ending)). wait_result l (has_living_child c.args.self.now.procs who)) list in
     elim c.match-first.branch [
-      | in-Some-first w ↦ w.result-is ∙ sym (none ∙ ap (reaped []) (same ∙ a_child table.living table.children table.made c.self.invariant.1 who _ (some_match _ _ c.first.result _ w.in-Some-first.is c.first.ensures)))
-      | in-None w ↦ w.result-is ∙ sym (none ∙ ap (reaped []) (same ∙ no_child table.living table.children table.made c.self.invariant.1 who (none_match _ _ c.first.result w.in-None.is c.first.ensures)))
+      | in-Some-first w ↦ w.result-is ∙ sym (none ∙ ap (wait_result []) (same ∙ a_child table.living table.children table.made c.self.invariant.1 who _ (some_match _ _ c.first.result _ w.in-Some-first.is c.first.ensures)))
+      | in-None w ↦ w.result-is ∙ sym (none ∙ ap (wait_result []) (same ∙ no_child table.living table.children table.made c.self.invariant.1 who (none_match _ _ c.first.result w.in-None.is c.first.ensures)))
     ]
 
 pub returns-clause-err : goal.returns-clause-err

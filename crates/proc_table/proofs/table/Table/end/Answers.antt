@@ -5,7 +5,7 @@ use Rattle.std.proofs.Common.{ap, sym, ◌∙◌, subst}
 use Rattle.kern_model.specs.Keys.{pid_cmp}
 use Rattle.kern_model.specs.State.{Process}
 use Rattle.proc_table.specs.Children.{IsKept}
-use Rattle.proc_table.specs.Procs.{altered, with_ended}
+use Rattle.proc_table.specs.Procs.{change_process, with_ended}
 use Rattle.proc_table.specs.contracts.process.Proc.{the_view}
 use Rattle.proc_table.proofs.FinishLemmas.{kept_ended, may_grow}
 use Rattle.proc_table.proofs.table.Table.end.Goals as goal
@@ -23,7 +23,7 @@ returns-in-Some-parent-clause-kept c =
     let who = c.args.who.now in
     let is = sym c.in-Some.ensures.removed ∙ ap Some (sym c.process.view_is) in
     subst (λ (living : FinMap pid_cmp Process). IsKept living c.remove-2.new.self t.made)
-    (sym (c.add_ended.ensures ∙ ap (λ (m : FinMap pid_cmp Process). altered m c.in-Some-parent.parent (with_ended who c.args.ending)) c.remove.ensures.left))
+    (sym (c.add_ended.ensures ∙ ap (λ (m : FinMap pid_cmp Process). change_process m c.in-Some-parent.parent (with_ended who c.args.ending)) c.remove.ensures.left))
     (kept_ended t.living t.children t.made c.requires.kept who (the_view c.process.inside) is c.args.ending c.remove-2.new.self c.remove-2.ensures.left (Some c.in-Some-parent.parent))
 
 pub returns-clause-kept : goal.returns-clause-kept

@@ -5,7 +5,7 @@ use Rattle.kern_model.specs.Keys.{pid_cmp}
 use Rattle.kern_model.specs.State.{Process}
 use Rattle.num_table.proofs.Outcomes.{none_match, some_match}
 use Rattle.proc_table.specs.Children.{IsKept, child_count}
-use Rattle.proc_table.specs.Procs.{all_parted}
+use Rattle.proc_table.specs.Procs.{all_without_parent}
 use Rattle.proc_table.proofs.FinishLemmas.{kept_orphaned, none_parted, parted_orphaned}
 use Rattle.proc_table.proofs.table.Table.leave_children.Goals as goal
 
@@ -22,7 +22,7 @@ loop-child-preserved c =
     record {
       kept = subst (λ (living : FinMap pid_cmp Process). IsKept living c.remove.new.self t.made) (sym c.orphan.ensures)
           (kept_orphaned t.living t.children t.made inv.kept who child is c.remove.new.self c.remove.ensures.left);
-      parted = ap (all_parted who) c.orphan.ensures ∙ parted_orphaned t.living t.children t.made inv.kept who child is ∙ inv.parted;
+      parted = ap (all_without_parent who) c.orphan.ensures ∙ parted_orphaned t.living t.children t.made inv.kept who child is ∙ inv.parted;
       numbers = inv.numbers;
     }
 

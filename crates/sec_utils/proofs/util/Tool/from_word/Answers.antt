@@ -4,14 +4,14 @@ use Rattle.std.proofs.lemmas.Iterator.Adapters.{option_map_id}
 use Rattle.std.proofs.lemmas.Iterator.Consumers.{YieldsList-from_copied}
 use Rattle.std.proofs.lemmas.Iterator.Search.{find_from_yields_List}
 use Rattle.std.specs.Cmp.Lexicographic.{pointwise}
-use Rattle.kern_model.specs.Named.{named}
+use Rattle.kern_model.specs.Named.{find_named}
 use Rattle.kern_model.proofs.NamedLaws.{found_by}
 use Rattle.sec_utils.specs.Tools.{tool_word, all_tools}
 use Rattle.sec_utils.proofs.ToolLaws.{tool_round_trip}
 use Rattle.sec_utils.proofs.util.Tool.from_word.Goals as goal
 
 pub returns-clause-exact : goal.returns-clause-exact
-unfolding named
+unfolding find_named
 returns-clause-exact c =
     let found = find_from_yields_List (λ x. pointwise ◌==◌ c.args.word.now (tool_word x)) _ _ c.find.result c.find.ensures.ran (YieldsList-from_copied (YieldsList-from_slice all_tools cc)) (λ x b q k. search (rules, tests)) in
     found_by tool_word all_tools c.args.word.now c.find.result tool_round_trip (sym (option_map_id c.find.result) ∙ found)

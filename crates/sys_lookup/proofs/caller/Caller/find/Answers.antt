@@ -1,14 +1,14 @@
 use Rattle.std.specs.FinMap as map
 use Rattle.std.proofs.Common.{◌≡◌, ◌∙◌, Some, ap, option_copied, sym}
 use Rattle.kern_model.specs.State.{State, Process}
-use Rattle.sys_lookup.specs.Shared.{holding}
+use Rattle.sys_lookup.specs.Shared.{process_with_fds}
 use Rattle.sys_lookup.proofs.CallerLemmas.{kept_is, kept_lives, none_match}
 use Rattle.sys_lookup.proofs.FdLemmas.{found, not_found}
 use Rattle.sys_lookup.proofs.caller.Caller.find.Goals.{In_ok-process}
 use Rattle.sys_lookup.proofs.caller.Caller.find.Goals as goal
 
 -- the process that was found, with its descriptors
-there : (c : In_ok-process) → map.get c.args.shared.now.procs c.args.who.now ≡ Some (holding c.shared.inside.fds.processes c.args.who.now c.in_ok-process.process.now)
+there : (c : In_ok-process) → map.get c.args.shared.now.procs c.args.who.now ≡ Some (process_with_fds c.shared.inside.fds.processes c.args.who.now c.in_ok-process.process.now)
 there c =
     let h = c.shared.inside in
     ap (λ (s : State). map.get s.procs c.args.who.now) (sym c.shared.view_is) ∙ found h.procs.procs h.fds.processes c.args.who.now c.in_ok-process.process.now (sym c.find.ensures ∙ ap option_copied c.in_ok-process.was)

@@ -1,5 +1,5 @@
 use Rattle.std.proofs.Common.{◌≡◌, ◌∙◌, ap, sym, subst}
-use Rattle.kern_model.specs.Descriptors.{opened}
+use Rattle.kern_model.specs.Descriptors.{open_description}
 use Rattle.fd_table.specs.Files.{opened_at}
 use Rattle.sys_lookup.specs.Callers.{CallerView, IsLiving}
 use Rattle.sys_lookup.proofs.RefuseLemmas.{is_open, not_open}
@@ -8,7 +8,7 @@ use Rattle.sys_lookup.proofs.caller.Caller.opened.Goals.{After-opened}
 use Rattle.sys_lookup.proofs.caller.Caller.opened.Goals as goal
 
 -- what was found in the table is what the descriptor refers to
-found : (c : After-opened) → opened c.args.self.now.state c.args.self.now.process c.args.fd ≡ c.opened.result
+found : (c : After-opened) → open_description c.args.self.now.state c.args.self.now.process c.args.fd ≡ c.opened.result
 found c =
     let k = c.args.self.now in
     let h = c.shared.inside in
