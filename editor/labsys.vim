@@ -1,8 +1,8 @@
 " Syntax of the worlds and scripts of labsys.
 "
 " With this file below ~/.vim/syntax, or after `make install`: `:set syntax=labsys`. This line of a vimrc sets it for each file that
-" begins with `world 1`:
-"     autocmd BufRead,BufNewFile * if getline(1) ==# 'world 1' | setlocal syntax=labsys | endif
+" begins with `world 2`:
+"     autocmd BufRead,BufNewFile * if getline(1) ==# 'world 2' | setlocal syntax=labsys | endif
 if exists('b:current_syntax')
     finish
 endif

@@ -35,6 +35,8 @@ WRONG = [
     (["gen", "0"], "N is a number from 1 to 100000"),
     (["gen", "-h"], "labsys gen N\nwrites a generated world with a script of N calls"),
     (["drill", "100001"], "N is a number from 1 to 100000"),
+    (["upgrade", "x"], "upgrade has a word too many: labsys upgrade < OLD"),
+    (["upgrade", "--help"], "labsys upgrade < OLD\nwrites OLD, an input of the old format, in the format of today"),
     (["drill", "--help"], "labsys drill N\nplays the world that gen N writes, and counts the answers"),
 ]
 

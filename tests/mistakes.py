@@ -21,7 +21,7 @@ HEAD = "| Line | Word | What is wrong |"
 
 def world_of(page):
     """The world of the page, which ends with the line `script`."""
-    return re.search(r"^```\n(world 1\n.*?^script\n)```$", page, re.M | re.S)[1]
+    return re.search(r"^```\n(world 2\n.*?^script\n)```$", page, re.M | re.S)[1]
 
 
 def tables_of(page):

@@ -168,7 +168,7 @@ def faults(name, enum):
     body = match_in(f"crates/{name}", rf"pub enum {enum} \{{(.*?)\n\}}", f"enum {enum}")[1]
     names = re.findall(r"^    (\w+)(?:\(|,)", body, re.M)
     pairs = re.findall(r'LineFault::(\w+) => b"(\w+)"', text_of("crates/line_text/src/fault.rt"))
-    return [word for name, word in pairs if name in names]
+    return [word for fault, word in pairs if any(fault.startswith(name) for name in names)]
 
 
 def keywords():
@@ -282,7 +282,8 @@ def capabilities_listed():
 
 
 def keywords_of_tables():
-    return list(itertools.takewhile(lambda word: word != "syntax", first_cells("docs/FORMATS.md", "The world")))
+    faults = faults_of_tables("The world")
+    return list(itertools.takewhile(lambda word: word != faults[0], first_cells("docs/FORMATS.md", "The world")))
 
 
 def faults_of_tables(section):
@@ -381,7 +382,7 @@ def parts_of_headline():
 
 def clauses_of_page():
     rows = rows_of(section_alone("docs/THEOREMS.md", "The other clauses of `run`"))
-    return sorted({name for cells in rows for name in CODE.findall(cells[1])} - {*fields_of_plays(), "view_alone"})
+    return sorted({name for cells in rows for name in CODE.findall(cells[1])} - {*fields_of_plays(), "view_alone", "upgraded"})
 
 
 def in_order(words):
@@ -652,6 +653,7 @@ NUMBERS = [
     ("docs/FORMATS.md", "a name `..`, a name of more than {NAME} bytes, or more than {NAMES} names"),
     ("docs/FORMATS.md", "| `levels NAME NAME ...` | 1 to {LEVELS} levels"),
     ("docs/FORMATS.md", "| `categories NAME ...` | 0 to {CATEGORIES} categories"),
+    ("docs/FORMATS.md", "is due, the line has at most {LINE} bytes and a line feed"),
     ("docs/FORMATS.md", "| `syntax` | the line has more than {LINE} bytes"),
     ("docs/FORMATS.md", "| `grades NAME NAME ...` | 1 to {GRADES} grades"),
     ("docs/FORMATS.md", "more than {LEVELS} levels, {CATEGORIES} categories, {GRADES} grades"),
@@ -660,6 +662,7 @@ NUMBERS = [
     ("docs/FORMATS.md", "TAG is `n@label`, with n from 1 to {PROCESSES}:"),
     ("docs/FORMATS.md", "N of `read` is at most {FILE}, that of `exit` at most {STATUS} |"),
     ("docs/FORMATS.md", "| `too_long` | the line has more than {LINE} bytes |"),
+    ("docs/FORMATS.md", "a line of the world may have more than {LINE} bytes then"),
     ("docs/FORMATS.md", "the tag is not `n@label` with n from 1 to {PROCESSES} and"),
     ("docs/FORMATS.md", "the number of a PID is not from 1 to {PROCESSES}, or"),
     ("docs/FORMATS.md", "`all` in a list stands for all {CAPABILITIES} names"),
@@ -677,6 +680,9 @@ NUMBERS = [
     ("docs/THEOREMS.md", "so over real files too they never end with status {Refused} or {TooLong}."),
     ("docs/THEOREMS.md", "With status {Done}, where no call crosses L"),
     ("docs/THEOREMS.md", "After status {Done} of `play`"),
+    ("docs/THEOREMS.md", "With status {Done} of `upgrade`"),
+    ("docs/THEOREMS.md", "Where each line of that text has at most {LINE} bytes, and the output at most {INPUT}"),
+    ("docs/THEOREMS.md", "With status {Refused} or {TooLong} the due bytes are"),
     ("docs/THEOREMS.md", "With status {ReadFault} the source counted one fault in this call"),
     ("docs/THEOREMS.md", "with status {WriteFault} the output, and with status {TrailFault} the trail"),
     ("docs/THEOREMS.md", "Status {ReadFault} comes only of a command that reads the source"),
