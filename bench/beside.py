@@ -1,9 +1,10 @@
 #!/usr/bin/env python3
 """Times two programs on the loads of a folder, in turn, so that other work on the machine hits both.
 
-    bench/beside.py --inputs FOLDER --plain PROGRAM [--cmd PROGRAM] [--runs N] [--view LABEL | --check]
+    bench/beside.py --inputs FOLDER [--old-inputs FOLDER] --plain PROGRAM [--cmd PROGRAM] [--runs N] [--view LABEL | --check]
 
-Each file FOLDER/NAME.in is played by both, N times each. A row has the best seconds of both and their ratio, the ratio of the
+Each file FOLDER/NAME.in is played by both, N times each; with --old-inputs the plain program reads the loads of that folder, of
+the old format of worlds. A row has the best seconds of both and their ratio, the ratio of the
 middle ones of user time, the MiB of both, and the ratio of the writes alone, which are those of pieces.c, to the plain program.
 With --view or --check that command is timed, without the last column. It fails where the two write different bytes. It needs a C
 compiler.
@@ -22,8 +23,9 @@ BUILT = pathlib.Path(__file__).resolve().parent.parent / "crates" / "labsys" / "
 class Bench:
     """A folder for what the runs write, and the compiled programs of measuring."""
 
-    def __init__(self, folder):
+    def __init__(self, folder, old_inputs):
         self.folder = pathlib.Path(folder)
+        self.old_inputs = old_inputs
         self.starter = compiled("start", folder)
         self.pieces = compiled("pieces", folder)
 
@@ -45,7 +47,8 @@ class Bench:
         took = {name: [] for name in [*programs, "pieces"]}
         for _ in range(runs):
             for name, program in programs.items():
-                took[name].append(self.run(name, program, words, load))
+                old = name == "plain" and self.old_inputs
+                took[name].append(self.run(name, program, words, old / load.name if old else load))
             if "TRAIL" in words:
                 files = [self.folder / f"plain.{end}" for end in ("out", "trail")]
                 took["pieces"].append(self.run("pieces", self.pieces, [*files, "TRAIL"], load))
@@ -63,6 +66,7 @@ class Bench:
 def main():
     arguments = argparse.ArgumentParser(description=__doc__, formatter_class=argparse.RawDescriptionHelpFormatter)
     arguments.add_argument("--inputs", required=True, type=pathlib.Path, metavar="FOLDER", help="a folder with loads NAME.in")
+    arguments.add_argument("--old-inputs", type=pathlib.Path, metavar="FOLDER", help="the same loads in the old format, for the plain program")
     arguments.add_argument("--plain", required=True, type=pathlib.Path, metavar="PROGRAM", help="the program to compare with")
     arguments.add_argument("--cmd", default=BUILT, type=pathlib.Path, metavar="PROGRAM", help="labsys; without it, that of the checkout")
     arguments.add_argument("--runs", default=9, type=int, metavar="N")
@@ -75,7 +79,7 @@ def main():
     heads = ["Load", "`labsys`", "plain", "Ratio", "Ratio of user time", "MiB of both", *(["The writes alone"] if "TRAIL" in words else [])]
     print(f"| {' | '.join(heads)} |\n|{'---|' * len(heads)}")
     with tempfile.TemporaryDirectory() as folder:
-        bench = Bench(folder)
+        bench = Bench(folder, given.old_inputs and given.old_inputs.resolve())
         for load in sorted(given.inputs.resolve().glob("*.in")):
             print(bench.row(load, programs, words, given.runs), flush=True)
 

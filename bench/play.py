@@ -21,7 +21,7 @@ from started import compiled, taken
 
 TOP = pathlib.Path(__file__).resolve().parent.parent
 BUILT = TOP / "crates" / "labsys" / "out" / "labsys"
-HEAD = b"world 1\nlevels unc conf sec\ncategories a b\nbound all\ndir / 0777 0 0 unc\n"
+HEAD = b"world 2\nlevels unc conf sec\ncategories a b\nbound all\ndir / 0777 0 0 unc\n"
 LIMIT = 16_777_216
 
 
@@ -44,6 +44,11 @@ def asking_script(size):
     world = HEAD + b'file /a 0644 10 10 sec "hello"\nproc sec 10 10 - "all=p"\nscript\n'
     lines = b"1@sec mac_get_file /a\n1@sec getpid\n1@sec cap_get_proc\n"
     return world + lines * ((size - len(world)) // len(lines))
+
+
+def old_asking_script(size):
+    """The same in the old format."""
+    return asking_script(size).replace(b"world 2", b"world 1", 1)
 
 
 def large_world(files, procs):
@@ -311,6 +316,7 @@ def commands(run_of):
     """The rows of each command, on the script of short lines and on the generated input."""
     for words in (PLAY, ("view", "sec"), ("view", "unc"), ("check",)):
         show(run_of, f"`{' '.join(words)}` of {{:,}} calls", asking_script, LIMIT, counted=b"1@sec ", words=words)
+    show(run_of, "`upgrade` of {:,} calls", old_asking_script, LIMIT, counted=b"1@sec ", words=("upgrade",))
     for count in (12_500, 25_000, 50_000, 100_000):
         show(run_of, f"`gen {count}`", started, 0, words=("gen", str(count)))
         show(run_of, f"`drill {count}`", started, 0, words=("drill", str(count)))
