@@ -29,8 +29,8 @@ Commands:
   drill N     plays that world and script, and writes to standard output how many calls were done,
               denied and refused, how many exercises of capabilities were recorded, and how many
               processes live at the end
-  upgrade     reads an input of the old format, whose first line is 'world 1' and which the other
-              commands refuse with old_format, and writes it to standard output in the format of
+  upgrade     reads an input of the old format, whose first line is 'world 1' and which play, view
+              and check refuse with old_format, and writes it to standard output in the format of
               today, whose first line is 'world 2'
 
 As the only word, --help prints this text, and --version the version.

@@ -6,6 +6,7 @@ use super::*;
 use fs_path::{next_line, number_of};
 use io_ends::{MemSink, MemSource};
 use std::alloc::Global;
+use std::process::Abort;
 use std::test::Fail;
 
 const INPUT: &[u8] = b"world 2\n\
@@ -463,6 +464,23 @@ fn performed(alloc: Global, words: &[&str], input: &[&[u8]], fails: Fails) -> Re
     Ends::new(alloc, input, fails)?.run(alloc, words)
 }
 
+// Each fault leaves these pieces of what a command writes.
+fn faults_leave(
+    rt: &impl Abort,
+    alloc: Global,
+    words: &[&str],
+    input: &[&[u8]],
+    rows: &[(Fails, Status, Pieces)],
+) -> Result<(), Fail> {
+    for (fails, status, out) in rows.iter().copied() {
+        assert!(rt;
+            performed(alloc, words, input, fails)?.is(alloc, status, out, &[])?,
+            "{fails:?}"
+        );
+    }
+    Ok(())
+}
+
 #[test]
 fn gen_writes_the_generated_input(rt: HostRuntime) -> Result<(), Fail> {
     let alloc = rt.alloc();
@@ -563,19 +581,12 @@ fn check_writes_what_it_found(rt: HostRuntime) -> Result<(), Fail> {
 
 #[test]
 fn a_fault_of_check_leaves_nothing(rt: HostRuntime) -> Result<(), Fail> {
-    let alloc = rt.alloc();
-    let rows = [
-        (Fails::Read(1), Status::ReadFault),
-        (Fails::Read(2), Status::ReadFault),
-        (Fails::Write(1), Status::WriteFault),
+    let rows: [(Fails, Status, Pieces); 3] = [
+        (Fails::Read(1), Status::ReadFault, &[]),
+        (Fails::Read(2), Status::ReadFault, &[]),
+        (Fails::Write(1), Status::WriteFault, &[]),
     ];
-    for (fails, status) in rows {
-        assert!(rt;
-            performed(alloc, &["check"], &[INPUT], fails)?.is(alloc, status, &[], &[])?,
-            "{fails:?}"
-        );
-    }
-    Ok(())
+    faults_leave(&rt, rt.alloc(), &["check"], &[INPUT], &rows)
 }
 
 // The head of a world in which the process of `sec` may write to the file of `unc`.
@@ -678,7 +689,6 @@ fn view_writes_what_the_label_sees(rt: HostRuntime) -> Result<(), Fail> {
 
 #[test]
 fn a_fault_of_view_leaves_what_stands_before_it(rt: HostRuntime) -> Result<(), Fail> {
-    let alloc = rt.alloc();
     let rows: [(Fails, Status, Pieces); 5] = [
         (Fails::Read(1), Status::ReadFault, &[]),
         (Fails::Read(2), Status::ReadFault, &[ANSWERED, b"crossed\n"]),
@@ -687,13 +697,7 @@ fn a_fault_of_view_leaves_what_stands_before_it(rt: HostRuntime) -> Result<(), F
         (Fails::Write(3), Status::Done, &[ANSWERED, b"crossed\n"]),
     ];
     let input: Pieces = &[OPEN_BELOW, ASKS, b"1@sec open /u w\n", ASKS];
-    for (fails, status, out) in rows {
-        assert!(rt;
-            performed(alloc, &["view", "unc"], input, fails)?.is(alloc, status, out, &[])?,
-            "{fails:?}"
-        );
-    }
-    Ok(())
+    faults_leave(&rt, rt.alloc(), &["view", "unc"], input, &rows)
 }
 
 // Four replies stand before the first call that overrides the rules on labels.
@@ -795,7 +799,6 @@ fn upgrade_writes_the_input_in_the_new_format(rt: HostRuntime) -> Result<(), Fai
 
 #[test]
 fn a_fault_of_upgrade_leaves_what_stands_before_it(rt: HostRuntime) -> Result<(), Fail> {
-    let alloc = rt.alloc();
     let rows: [(Fails, Status, Pieces); 7] = [
         (Fails::Read(1), Status::ReadFault, &[]),
         (
@@ -818,11 +821,5 @@ fn a_fault_of_upgrade_leaves_what_stands_before_it(rt: HostRuntime) -> Result<()
         ),
     ];
     let input: Pieces = &[OLD, WIDE, b"\n", CALL];
-    for (fails, status, out) in rows {
-        assert!(rt;
-            performed(alloc, &["upgrade"], input, fails)?.is(alloc, status, out, &[])?,
-            "{fails:?}"
-        );
-    }
-    Ok(())
+    faults_leave(&rt, rt.alloc(), &["upgrade"], input, &rows)
 }
