@@ -5,7 +5,7 @@
 
 It prints the tables of README.md: wall time, and the most memory that the run held at a time. A part is what one section of that
 page has: `inputs`, which are scripts and worlds up to the limits of an input and of a label, `lines`, `directories`, `objects`,
-`descriptors`, `processes`, `attributes` and `commands`. Without parts it prints all. PROGRAM is the built one where none is given;
+`descriptors`, `processes`, `attributes`, `commands` and `trails`. Without parts it prints all. PROGRAM is the built one where none is given;
 the script `labsys` would add its own time.
 """
 import argparse
@@ -185,6 +185,24 @@ def attributed(files):
     return OPEN + b"".join(world) + started(1) + b"".join(lines)
 
 
+def recorded(records):
+    """A trail with this many records of each kind in turn, about 54 bytes each."""
+    lines = [
+        b'%d fork 1@unc %d@unc\n',
+        b'%d exec 1@unc 7@unc "cap_kill,cap_mac_read=ep" "cap_kill,cap_mac_read=ep"\n',
+        b'%d exercise 1@unc unc cap_mac_read mac_read obj:7@sec:a sec:a - p1\n',
+        b'%d mac_set_file 1@unc 7@unc unc sec:a,b\n',
+        b'%d deny 1@unc mac_get_file EACCES mac_read p12\n',
+        b'%d note 1@unc "twenty bytes of text"\n',
+        b'%d cap_set_proc 1@unc "cap_kill,cap_mac_read=ep"\n',
+        b'%d exercise 1@unc unc cap_kill kill proc:2@unc unc - pid\n',
+    ]
+    head = b'trail 1\nlevels unc sec\ncategories a b\nbound all\n0 boot 1@unc unc "cap_kill,cap_mac_read=ep"\n'
+    numbers = iter(range(2, 65_536))
+    texts = (line % ((n, next(numbers)) if line.count(b"%d") == 2 else n) for n, line in zip(range(1, records), (lines * records)[:records - 1]))
+    return head + b"".join(texts)
+
+
 def write_input(path, make, args, counted):
     """Writes an input, and returns how often it has these bytes. A process of its own makes it, since a run begins with the
     memory of the process that starts it."""
@@ -322,7 +340,14 @@ def commands(run_of):
         show(run_of, f"`drill {count}`", started, 0, words=("drill", str(count)))
 
 
-PARTS = [inputs, lines, directories, objects, descriptors, processes, attributes, commands]
+def trails(run_of):
+    """The rows of trails that are read."""
+    for records in (37_500, 75_000, 150_000, 300_000):
+        for words in (("lineage",), ("select", "all"), ("select", "event=boot")):
+            show(run_of, f"`{' '.join(words)}` of {{:,}} lines", recorded, records, words=words)
+
+
+PARTS = [inputs, lines, directories, objects, descriptors, processes, attributes, commands, trails]
 
 
 def main():

@@ -18,6 +18,7 @@ import os
 import pathlib
 import re
 import shlex
+import shutil
 import subprocess
 import sys
 import tempfile
@@ -67,7 +68,9 @@ def play_session(block, folder):
 
 
 def play_block(block, folder):
-    """A block of a page, as it should be."""
+    """A block of a page, as it should be. One with a command of `jq` is left as it is where there is no `jq`."""
+    if re.search(r"^\$ .*\| jq ", block, re.M) and not shutil.which("jq"):
+        return block
     if block.startswith("$ "):
         return play_session(block, folder)
     if block.startswith("world ") and run(["./labsys", "check"], folder, block.encode())[0] != 0:

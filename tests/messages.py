@@ -37,6 +37,11 @@ WRONG = [
     (["drill", "100001"], "N is a number from 1 to 100000"),
     (["upgrade", "x"], "upgrade has a word too many: labsys upgrade < OLD"),
     (["upgrade", "--help"], "labsys upgrade < OLD\nwrites OLD, an input of the old format, in the format of today"),
+    (["select"], "select needs SPEC, which picks records: labsys select SPEC < TRAIL"),
+    (["select", "-all"], f"SPEC {LABEL_OR_FILE}"),
+    (["select", "-h"], "labsys select SPEC < TRAIL\nwrites the records of TRAIL that SPEC picks, a line of JSON for each"),
+    (["lineage", "x"], "lineage has a word too many: labsys lineage < TRAIL"),
+    (["lineage", "--help"], "labsys lineage < TRAIL\nsays whether each record of TRAIL can follow those before it"),
     (["drill", "--help"], "labsys drill N\nplays the world that gen N writes, and counts the answers"),
 ]
 
@@ -71,7 +76,7 @@ def faults_of_faults(command, folder):
 
 def faults_at_a_terminal(command, folder):
     """What is wrong with what is written where standard input is a terminal, at which nothing but its end is typed."""
-    for words, wanted in [(["check"], "labsys: reading standard input\n"), (["play", "trail"], "labsys: reading standard input\n"), (["gen", "1"], "")]:
+    for words, wanted in [(["check"], "labsys: reading standard input\n"), (["play", "trail"], "labsys: reading standard input\n"), (["lineage"], "labsys: reading standard input\n"), (["gen", "1"], "")]:
         typed, terminal = pty.openpty()
         os.write(typed, b"\x04")
         done = subprocess.run(command + words, stdin=terminal, stdout=subprocess.DEVNULL, stderr=subprocess.PIPE, cwd=folder, timeout=60)

@@ -336,7 +336,7 @@ def items_of_manual():
 
 
 def commands_of_help():
-    return re.findall(r"^  ([a-z]+(?: [A-Z]+)?)  ", between("docs/help.txt", "Commands:\n", "As the only"), re.M)
+    return re.findall(r"^  ([a-z]+(?: [A-Z]+)?) ", between("docs/help.txt", "Commands:\n", "As the only"), re.M)
 
 
 def utilities_of_page():
@@ -345,6 +345,14 @@ def utilities_of_page():
 
 def records_of_page():
     return list(dict.fromkeys(first_cells("docs/FORMATS.md", "The trail")))
+
+
+def words_of_lineage():
+    return rows_with_words("docs/FORMATS.md", "Lineage")
+
+
+def faults_of_trails():
+    return rows_with_words("docs/FORMATS.md", "Trails that are refused")
 
 
 def kit_of_readme():
@@ -382,7 +390,7 @@ def parts_of_headline():
 
 def clauses_of_page():
     rows = rows_of(section_alone("docs/THEOREMS.md", "The other clauses of `run`"))
-    return sorted({name for cells in rows for name in CODE.findall(cells[1])} - {*fields_of_plays(), "view_alone", "upgraded"})
+    return sorted({name for cells in rows for name in CODE.findall(cells[1])} - {*fields_of_plays(), "view_alone", "upgraded", "answers"})
 
 
 def in_order(words):
@@ -421,6 +429,12 @@ WORDS = [
     ("docs/FORMATS.md", "utilities", utilities_of_page, tools),
     ("tests/answers.py", "utilities", lambda: list(UTILITIES), tools),
     ("docs/FORMATS.md", "records", records_of_page, lambda: arms("aud_record/src/event.rt", "Event")),
+    (
+        "docs/FORMATS.md", "records as JSON",
+        lambda: first_cells("docs/FORMATS.md", "Records as JSON")[4:], lambda: arms("aud_record/src/event.rt", "Event"),
+    ),
+    ("docs/FORMATS.md", "words of `lineage`", words_of_lineage, lambda: arms("aud_red/src/lineage.rt", "Why")),
+    ("docs/FORMATS.md", "refusals of a trail", faults_of_trails, lambda: ["unended", "header", "record"]),
     ("docs/FORMATS.md", "exit statuses", statuses_of_page, statuses),
     (
         "docs/FORMATS.md", "messages of exit statuses",
@@ -668,6 +682,8 @@ NUMBERS = [
     ("docs/FORMATS.md", "`all` in a list stands for all {CAPABILITIES} names"),
     ("docs/FORMATS.md", "has no list and is about all {CAPABILITIES}."),
     ("docs/FORMATS.md", "`too_long` where it has more than {LINE} bytes, and else"),
+    ("docs/FORMATS.md", "Numbers of processes and objects go up to {OBJECTS}, and"),
+    ("docs/FORMATS.md", "A trail of more than {INPUT} bytes is not judged"),
     ("docs/FORMATS.md", "An input of more than {INPUT} bytes is cut there"),
     ("docs/FORMATS.md", "is refused where it has more than {LINE} bytes, with `syntax`"),
     ("docs/THEOREMS.md", "With any status but {NoMemory}, status {Usage} comes exactly where the words name no command"),
@@ -679,7 +695,8 @@ NUMBERS = [
     ("docs/THEOREMS.md", "Where the status is {Done}, {Refused} or {TooLong}, it is the one"),
     ("docs/THEOREMS.md", "so over real files too they never end with status {Refused} or {TooLong}."),
     ("docs/THEOREMS.md", "With status {Done}, where no call crosses L"),
-    ("docs/THEOREMS.md", "After status {Done} of `play`"),
+    ("docs/THEOREMS.md", "With status {Done} of `lineage`"),
+    ("docs/THEOREMS.md", "After status {Done} of a command that reads the source"),
     ("docs/THEOREMS.md", "With status {Done} of `upgrade`"),
     ("docs/THEOREMS.md", "Where each line of that text has at most {LINE} bytes, and the output at most {INPUT}"),
     ("docs/THEOREMS.md", "With status {Refused} or {TooLong} the due bytes are"),

@@ -17,22 +17,12 @@ use line_text::LineWriter;
 use std::alloc::Global;
 
 /// A header that was read.
-#[derive(Debug)]
+#[derive(Debug, Drop)]
 pub struct Header {
     pub policy: Policy,
     pub bound: CapSet,
     /// How many bytes its lines have, with their line feeds.
     pub used: usize,
-}
-
-impl Drop for Header {
-    fn drop(self) {
-        let Header {
-            policy: _,
-            bound: _,
-            used: _,
-        } = self;
-    }
 }
 
 /// Why no header is read. A fault has the number of its line, counted from 1.

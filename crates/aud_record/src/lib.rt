@@ -11,7 +11,7 @@ mod reading;
 mod words;
 mod written;
 
-pub use event::Event;
+pub use event::{Event, who};
 pub use header::{Header, HeaderError, header_read, header_text};
 pub use reading::{ReadRec, RecError, rec_read};
 pub use std::alloc::AllocError as NoMemory;

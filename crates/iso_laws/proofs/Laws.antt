@@ -7,6 +7,7 @@ pub use Rattle.iso_laws.proofs.Below.{labels_below}
 pub use Rattle.iso_laws.proofs.Lineage.{caps_by_records}
 pub use Rattle.iso_laws.proofs.Drops.{drops_by_records}
 pub use Rattle.iso_laws.proofs.Growth.{growth_by_records}
+pub use Rattle.iso_laws.proofs.OwnTrail.{own_trail}
 pub use Rattle.iso_laws.proofs.GoingOn.{refusals_are_named, drawn_step, numbers_step, numbers_run, gone_run}
 pub use Rattle.iso_laws.proofs.UnnamedLaw.{unnamed_capability}
 pub use Rattle.iso_laws.proofs.CapsStay.{caps_stay}

@@ -43,6 +43,8 @@ pub mod GoingOn
 pub mod StartLemmas
 pub mod SinceStart
 pub mod Growth
+pub mod Trails
+pub mod OwnTrail
 pub mod Laws
 pub mod UnnamedLaw
 pub mod CapsStay

@@ -209,7 +209,8 @@ processes_started bound (w ∷ ws) s f seen all =
     subst (AllStarted (boot_processes (boot_process s w) ws) (caps_after bound (caps_after_one bound f r) (boot_recs_from (boot_process s w) ws))) (append_assoc seen (r ∷ []) (boot_recs_from (boot_process s w) ws))
     (processes_started bound ws (boot_process s w) (caps_after_one bound f r) (seen ++ r ∷ []) one)
 
-no_process : (w : World) (q : Pid) → IsThere (objects_loaded w).procs q → ⊥
+-- no process is there before the processes of a world
+pub no_process : (w : World) (q : Pid) → IsThere (objects_loaded w).procs q → ⊥
 no_process w q there = never_some _ there.value (get-empty pid_cmp q) (ap (λ m. map.get m q) (sym (objects_procs w.objects (nothing w.bound w.top))) ∙ there.is)
 
 booted_started : (w : World) → AllStarted (boot w) (caps_of w.bound (boot_recs w)) (boot_recs w)

@@ -22,6 +22,7 @@ use Rattle.kern_model.specs.State.{State, Process}
 use Rattle.kern_model.specs.Step.{step}
 use Rattle.kern_model.specs.Valid.{IsValid}
 use Rattle.kern_model.specs.World.{IsWorld}
+use Rattle.iso_laws.specs.Follows.{AllFollow}
 use Rattle.iso_laws.specs.Labels.{HasLabelsBelow}
 use Rattle.iso_laws.specs.Unnamed.{NeedsOnlyNamed}
 
@@ -123,6 +124,10 @@ DropsByRecords = (w : World) (items : List ScriptItem) → OnlyDrops w.bound (al
 -- permitted sets grow by exec alone
 abbrev pub GrowthByRecords : Type 0
 GrowthByRecords = (w : World) (items : List ScriptItem) → GrowsByExec w.bound (all_recs w items)
+
+-- each record may come after those before it
+abbrev pub OwnTrail : Type 0
+OwnTrail = (w : World) (items : List ScriptItem) → AllFollow w.bound (all_recs w items)
 
 -- whether a record gives a process its capability sets: that of its start, of the fork that made it, or of `exec` or `cap_set_proc` by it
 abbrev pub gives_sets : Pid → Rec → Bool

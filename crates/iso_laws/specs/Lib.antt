@@ -1,3 +1,4 @@
+pub mod Follows
 pub mod Labels
 pub mod Laws
 pub mod Unnamed

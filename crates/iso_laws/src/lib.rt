@@ -7,7 +7,7 @@
 ghost use Rattle.iso_laws.specs.Laws.{LowStepReply, LowStepRecords, LowStepState, OtherStep, KeptStep, ValidStep};
 ghost use Rattle.iso_laws.specs.Laws.{KeptBoot, ValidBoot, IsolatedPrefix, IsolatedWhole, IsolatedEnd, IsolatedInside, TwoWorldsAgree, TwoWorldsSame};
 ghost use Rattle.iso_laws.specs.Laws.{LabelsBelow};
-ghost use Rattle.iso_laws.specs.Laws.{CapsByRecords, CapsStay, DropsByRecords, GrowthByRecords};
+ghost use Rattle.iso_laws.specs.Laws.{CapsByRecords, CapsStay, DropsByRecords, GrowthByRecords, OwnTrail};
 ghost use Rattle.iso_laws.specs.Laws.{RefusalsAreNamed, DrawnStep, NumbersStep, NumbersRun, GoneRun};
 ghost use Rattle.iso_laws.specs.Laws.{TopBoot, TopStep, UnnamedCapability};
 
@@ -80,6 +80,13 @@ pub fn drops_by_records()
 /// an ancestor at its start, or a program gave it to an ancestor. For every call.
 pub fn growth_by_records()
     ensures { GrowthByRecords }
+{}
+
+/// Each record of a run may come after those before it. By those, a process that starts or that is the child of a fork is
+/// new, and each other process that a record is about is known; a program gives the sets of the exec formula, `cap_set_proc`
+/// gives sets that may be had from those before, and what is exercised is effective. For every call.
+pub fn own_trail()
+    ensures { OwnTrail }
 {}
 
 /// A process that lives before and after a step keeps its capability sets, unless a record of the step gives it others: of

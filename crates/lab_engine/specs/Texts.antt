@@ -56,6 +56,8 @@ unfoldable pub part_text : Part → List ℕ
 part_text part.World = codes "world"
 part_text part.Script = codes "script"
 part_text part.View = codes "view"
+part_text part.Trail = codes "trail"
+part_text part.Select = codes "select"
 
 -- the words of the last line: `done COUNT`, `refused LINE PART WORD` or `too long`
 abbrev pub last_words : ℕ → InputEnd → List (List ℕ)

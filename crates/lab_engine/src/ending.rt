@@ -11,6 +11,10 @@ pub enum Part {
     Script,
     /// The label of `view`, which stands on no line of the input.
     View,
+    /// A trail, which is the input of `select` and of `lineage`.
+    Trail,
+    /// The word of `select` that says which records are picked, which stands on no line of the input.
+    Select,
 }
 
 /// How an input ends.

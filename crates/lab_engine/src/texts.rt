@@ -28,6 +28,8 @@ impl Part {
             Part::World => b"world",
             Part::Script => b"script",
             Part::View => b"view",
+            Part::Trail => b"trail",
+            Part::Select => b"select",
         }
     }
 }

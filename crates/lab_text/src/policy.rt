@@ -90,10 +90,17 @@ fn has_name(names: &[Word], name: &[u8]) -> bool
     names.iter().any(|word| name == word.bytes())
 }
 
+// Whether two names are equal. Those of one list often differ in their last bytes alone, so these are compared first.
+fn are_equal(name: &[u8], other: &[u8]) -> bool
+    ensures { result ≡ same_bytes name.now other.now }
+{
+    name.last() == other.last() && name == other
+}
+
 fn place_of(names: &[Word], name: &[u8]) -> Option<usize>
     ensures { result ≡ place_of names.now name.now }
 {
-    names.iter().position(|word| name == word.bytes())
+    names.iter().position(|word| are_equal(name, word.bytes()))
 }
 
 /// Whether levels, categories or grades may have these names.

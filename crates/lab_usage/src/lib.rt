@@ -32,13 +32,18 @@ Commands:
   upgrade     reads an input of the old format, whose first line is 'world 1' and which play, view
               and check refuse with old_format, and writes it to standard output in the format of
               today, whose first line is 'world 2'
+  select SPEC reads a trail, and writes the records that SPEC picks to standard output, a line of
+              JSON for each; SPEC is all, or some of pid=PID, label=LABEL, event=WORD and cap=NAME
+              with ; between them
+  lineage     reads a trail, and writes to standard output whether each of its records can follow
+              those before it
 
 As the only word, --help prints this text, and --version the version.
 
 Exit status:
   0  done
   1  the words name no command
-  2  a line of standard input, or LABEL, is refused
+  2  a line of standard input, or LABEL or SPEC, is refused
   3  a read of standard input failed
   4  a write to standard output failed
   5  a write to FILE failed
@@ -101,7 +106,7 @@ fn command_line<'a>(alloc: Global) -> Result<Command<'a>, AllocError>
     let command = Arg::new(alloc, "COMMAND")
         .required(true)
         .help("The command");
-    let argument = Arg::new(alloc, "ARGUMENT").help("FILE, LABEL or N");
+    let argument = Arg::new(alloc, "ARGUMENT").help("FILE, LABEL, N or SPEC");
     Ok(
         Command::new(alloc, "labsys")
             .version("1.0.0")

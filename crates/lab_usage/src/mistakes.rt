@@ -20,7 +20,7 @@ const NOT_EMPTY: &str = "is a word that is not empty and does not begin with -";
 
 const LINES: &str = "is a number from 1 to 100000";
 
-static COMMANDS: [CommandHelp; 6] = [
+static COMMANDS: [CommandHelp; 8] = [
     CommandHelp {
         word: "play",
         usage: "labsys play FILE < WORLD",
@@ -62,6 +62,20 @@ static COMMANDS: [CommandHelp; 6] = [
         argument: None,
         form: "",
         about: "writes OLD, an input of the old format, in the format of today",
+    },
+    CommandHelp {
+        word: "select",
+        usage: "labsys select SPEC < TRAIL",
+        argument: Some("SPEC, which picks records"),
+        form: NOT_EMPTY,
+        about: "writes the records of TRAIL that SPEC picks, a line of JSON for each",
+    },
+    CommandHelp {
+        word: "lineage",
+        usage: "labsys lineage < TRAIL",
+        argument: None,
+        form: "",
+        about: "says whether each record of TRAIL can follow those before it",
     },
 ];
 

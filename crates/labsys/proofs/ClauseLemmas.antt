@@ -11,7 +11,7 @@ use Rattle.kern_model.specs.Prefixes.{IsPrefix}
 use Rattle.kern_model.specs.Lineage.{OnlyDrops, GrowsByExec}
 use Rattle.iso_laws.proofs.Laws.{drops_by_records, growth_by_records}
 use Rattle.labsys.specs.declared.command.Command.{Command}
-use Rattle.labsys.specs.declared.command.Command.TheVariants.{Play, Check, Gen, Drill, View, Upgrade}
+use Rattle.labsys.specs.declared.command.Command.TheVariants.{Play, Check, Gen, Drill, View, Upgrade, Select, Lineage}
 use Rattle.lab_engine.specs.declared.ending.InputEnd.{InputEnd}
 use Rattle.lab_engine.specs.declared.ending.InputEnd.TheVariants.{Whole, Refused as IsRefused, TooMuch}
 use Rattle.lab_engine.specs.declared.ending.Fault.{Fault}
@@ -41,7 +41,7 @@ use Rattle.labsys.specs.Lineage.{PrintedByAny}
 use Rattle.labsys.specs.Promises.{Plays, Upgrades, Views}
 use Rattle.labsys.specs.Readable.{InputReadable}
 use Rattle.labsys.specs.Clauses.{status_of, HasAllCalls, OnWhole, PlayedTaken, Reports, reports, if_used, reports_used, Moved, run_of, WhereReported, WhereAccepted, TakesAtMost, Covered, RepliesFirst, Printed, Dropped, Written, Isolated, IsolatedWhole, SameBelow, TwoInputs, TwoWhole}
-use Rattle.lab_engine.proofs.Sending.{out_of-append, out_of-to_out, trail_of-append, trail_of-to_out, prefix_of}
+use Rattle.lab_engine.proofs.Sending.{in_order, out_of-append, out_of-to_out, trail_of-append, trail_of-to_out, prefix_of}
 use Rattle.lab_engine.proofs.ViewLemmas.{view_alone}
 use Rattle.labsys.proofs.Coverage.{records_alone, replies_alone, session_out, session_trail, covered, replies_first, recorded}
 use Rattle.labsys.proofs.AcceptedLemmas.{accepted_input}
@@ -200,6 +200,8 @@ only_play (Gen n) is = absurd (cc)
 only_play (Drill n) is = absurd (cc)
 only_play (View word) is = absurd (cc)
 only_play Upgrade is = absurd (cc)
+only_play (Select word) is = absurd (cc)
+only_play Lineage is = absurd (cc)
 
 only_done : (r : Result InputEnd Fault) → status_of r ≡ Done → r ≡ Ok Whole
 only_done (Ok Whole) is = refl
@@ -242,7 +244,7 @@ module _ (c : Command) (r : Result InputEnd Fault) (l l' : Option (List ℕ)) (e
   pub run_few : TakesAtMost (MAX_INPUT + 1) l l'
   run_few = record { taken = x.taken; took = x.took; few = x.few }
 
-  run_all : (s : Status) → s ≡ status_of r → OnWhole s (WhereReported old now (λ text out trail. (out ≡ out_of (due c text).order) × (trail ≡ trail_of (due c text).order)))
+  pub run_all : (s : Status) → s ≡ status_of r → OnWhole s (WhereReported old now (λ text out trail. (out ≡ out_of (due c text).order) × (trail ≡ trail_of (due c text).order)))
   run_all s is =
       let P : Type 0 = WhereReported old now (λ text out trail. (out ≡ out_of (due c text).order) × (trail ≡ trail_of (due c text).order)) in
       subst (λ z. OnWhole z P) (sym is) (on_whole r (λ _. P) (λ e ok text before above el eo et.
@@ -250,7 +252,7 @@ module _ (c : Command) (r : Result InputEnd Fault) (l l' : Option (List ℕ)) (e
       let same = ap (λ (d : Due). d.order) (sym (all_due text el)) in
       moved l l' entry exit x.taken x.took all.order w.sends _ text before above el eo et (ap out_of same, ap trail_of same)))
 
-  ends_by : (s : Status) → s ≡ status_of r → OnWhole s ((text : List ℕ) → l ≡ Some text → s ≡ (due c text).status)
+  pub ends_by : (s : Status) → s ≡ status_of r → OnWhole s ((text : List ℕ) → l ≡ Some text → s ≡ (due c text).status)
   ends_by s is =
       let P : Status → Type 0 = λ z. (text : List ℕ) → l ≡ Some text → z ≡ (due c text).status in
       subst (λ z. OnWhole z (P z)) (sym is) (on_whole r P (λ e ok text el.
@@ -287,13 +289,30 @@ writes_out (Err x) bytes e e' w = record {
   one_fault = w.one_fault;
 }
 
+-- a command that writes to the output alone did the same where the trail counts as one that holds nothing
+did_beside : (c : Command) (bytes : List ℕ → List ℕ) → ((text : List ℕ) → (due c text).order ≡ to_out (bytes text)) → (c ≡ Play → ⊥) → (r : Result InputEnd Fault) (l l' : Option (List ℕ)) (e e' : Ends) → CommandDid c r l l' e e'
+    → CommandDid c r l l' (without_trail e) (without_trail e')
+did_beside c bytes is other r l l' e e' x =
+    let text = x.taken ++ left_of l' in
+    record {
+      taken = x.taken;
+      took = x.took;
+      few = x.few;
+      writes = in_order r _ _ _ _ (sym (is text)) (writes_out r (bytes text) e e' (in_order r _ _ e e' (is text) x.writes));
+      status = x.status;
+      to_the_end = x.to_the_end;
+      by_line = λ play. absurd (other play);
+    }
+
 -- a command did the same by what the ends report that it uses
-did_used : (c : Command) (r : Result InputEnd Fault) (l l' : Option (List ℕ)) (e e' : Ends) → CommandDid c r l l' e e'
+pub did_used : (c : Command) (r : Result InputEnd Fault) (l l' : Option (List ℕ)) (e e' : Ends) → CommandDid c r l l' e e'
     → CommandDid c r (if_used (reads_source c) l) (if_used (reads_source c) l') (ends_used c e) (ends_used c e')
 did_used Play r l l' e e' x = x
-did_used Check r l l' e e' x = record { taken = x.taken; took = x.took; few = x.few; writes = writes_out r _ e e' x.writes; status = x.status; to_the_end = x.to_the_end; by_line = λ play. absurd (cc) }
-did_used (View word) r l l' e e' x = record { taken = x.taken; took = x.took; few = x.few; writes = writes_out r _ e e' x.writes; status = x.status; to_the_end = x.to_the_end; by_line = λ play. absurd (cc) }
-did_used Upgrade r l l' e e' x = record { taken = x.taken; took = x.took; few = x.few; writes = writes_out r _ e e' x.writes; status = x.status; to_the_end = x.to_the_end; by_line = λ play. absurd (cc) }
+did_used Check r l l' e e' x = did_beside Check _ (λ text. refl) (λ play. absurd (cc)) r l l' e e' x
+did_used (View word) r l l' e e' x = did_beside (View word) _ (λ text. refl) (λ play. absurd (cc)) r l l' e e' x
+did_used Upgrade r l l' e e' x = did_beside Upgrade _ (λ text. refl) (λ play. absurd (cc)) r l l' e e' x
+did_used (Select word) r l l' e e' x = did_beside (Select word) _ (λ text. refl) (λ play. absurd (cc)) r l l' e e' x
+did_used Lineage r l l' e e' x = did_beside Lineage _ (λ text. refl) (λ play. absurd (cc)) r l l' e e' x
 did_used (Gen n) r l l' e e' x = record { taken = []; took = Consumes-nil (Some []); few = omega arith; writes = writes_out r _ e e' x.writes; status = x.status; to_the_end = λ reads. absurd (cc); by_line = λ play. absurd (cc) }
 did_used (Drill n) r l l' e e' x = record { taken = []; took = Consumes-nil (Some []); few = omega arith; writes = writes_out r _ e e' x.writes; status = x.status; to_the_end = λ reads. absurd (cc); by_line = λ play. absurd (cc) }
 
@@ -441,7 +460,7 @@ is_upgrade o c is upgrade = let same : Some c ≡ Some Upgrade = sym is ∙ upgr
 pub as_upgrade : (c : Command) (r : Result InputEnd Fault) (l l' : Option (List ℕ)) (entry exit : Ends) → c ≡ Upgrade → CommandDid c r l l' entry exit → CommandDid Upgrade r l l' entry exit
 as_upgrade c r l l' entry exit is x = subst (λ (k : Command). CommandDid k r l l' entry exit) is x
 
-ends_whole : (e : InputEnd) → Done ≡ ends_with e → e ≡ Whole
+pub ends_whole : (e : InputEnd) → Done ≡ ends_with e → e ≡ Whole
 ends_whole Whole is = refl
 ends_whole (IsRefused n part why) is = absurd (cc)
 ends_whole TooMuch is = absurd (cc)

@@ -1,5 +1,5 @@
 -- What a source has left, and an input without a world.
-use Rattle.std.proofs.Common.{◌≡◌, ℕ, true, List, [], ◌++◌, refl, sym, ◌∙◌, ap, subst, arith}
+use Rattle.std.proofs.Common.{◌≡◌, ℕ, Bool, true, false, List, [], ◌++◌, refl, sym, ◌∙◌, ap, subst, arith}
 use Rattle.std.proofs.KnownBytes.{Consumes-nil}
 use Rattle.std.specs.Prelude.{Option, None, Some}
 use Rattle.std.specs.Io.KnownBytes.{Consumes}
@@ -13,9 +13,9 @@ use Rattle.lab_engine.specs.Order.{Sent, calls_by, order_by, order_of, order_of_
 use Rattle.lab_engine.specs.Reading.{Takes, left_of}
 use Rattle.lab_engine.specs.Texts.{last_text}
 use Rattle.labsys.specs.declared.command.Command.{Command}
-use Rattle.labsys.specs.declared.command.Command.TheVariants.{Play, Check, Gen, Drill, View, Upgrade}
+use Rattle.labsys.specs.declared.command.Command.TheVariants.{Play, Check, Gen, Drill, View, Upgrade, Select, Lineage}
 use Rattle.labsys.specs.Clauses.{TakesAtMost}
-use Rattle.labsys.specs.Commands.{due, due_of_check, due_of_play, due_of_upgrade, due_of_view, ends_with, reads_source}
+use Rattle.labsys.specs.Commands.{due, due_of_check, due_of_play, due_of_upgrade, due_of_view, ends_with}
 
 -- ---- what a source has left
 
@@ -52,8 +52,19 @@ abbrev pub format_of : Command → Format
 format_of Upgrade = One
 format_of _ = Two
 
--- what is due of a command that reads the source is then the last line
-pub due_without_world : (c : Command) → reads_source c ≡ true → (text : List ℕ) (e : InputEnd) → input_in (format_of c) text ≡ no_world e → upgrade_in (format_of c) text ≡ record { accepted = None; script = kept_script [] e }
+-- whether a command reads an input: a world and a script
+abbrev pub reads_input : Command → Bool
+reads_input Play = true
+reads_input Check = true
+reads_input (Gen n) = false
+reads_input (Drill n) = false
+reads_input (View word) = true
+reads_input Upgrade = true
+reads_input (Select word) = false
+reads_input Lineage = false
+
+-- what is due of a command that reads an input is then the last line
+pub due_without_world : (c : Command) → reads_input c ≡ true → (text : List ℕ) (e : InputEnd) → input_in (format_of c) text ≡ no_world e → upgrade_in (format_of c) text ≡ record { accepted = None; script = kept_script [] e }
     → due c text ≡ record { order = to_out (last_text 0 e); status = ends_with e }
 due_without_world Play reads text e is kept = ap due_of_play is ∙ ap (λ (o : List Sent). record { order = o; status = ends_with e }) (sym (without_world e))
 due_without_world Check reads text e is kept = ap due_of_check is
@@ -61,6 +72,8 @@ due_without_world (Gen n) reads text e is kept = absurd (cc)
 due_without_world (Drill n) reads text e is kept = absurd (cc)
 due_without_world (View word) reads text e is kept = ap (due_of_view word) is
 due_without_world Upgrade reads text e is kept = ap due_of_upgrade kept
+due_without_world (Select word) reads text e is kept = absurd (cc)
+due_without_world Lineage reads text e is kept = absurd (cc)
 
 pub no_calls : (i : Input) → i.accepted ≡ None → order_of_calls i ≡ []
 unfolding calls_by

@@ -8,6 +8,7 @@ pub mod Isolating
 pub mod LineageLemmas
 pub mod ReadableLemmas
 pub mod PlayLemmas
+pub mod TrailLemmas
 pub mod SessionLemmas
 pub mod CheckLemmas
 pub mod UpgradedLemmas
@@ -15,4 +16,5 @@ pub mod ViewedLemmas
 pub mod DrillLemmas
 pub mod PerformLemmas
 pub mod ClauseLemmas
+pub mod LineageAnswers
 pub mod UntouchedLemmas

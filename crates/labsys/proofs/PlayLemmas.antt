@@ -43,7 +43,7 @@ use Rattle.lab_engine.proofs.Sending.{goes_on, in_order, out_of_memory, passes_o
 use Rattle.labsys.specs.declared.command.Command.{Command}
 use Rattle.labsys.specs.declared.command.Command.TheVariants.{Play, Check, View, Upgrade}
 use Rattle.labsys.specs.Clauses.{TakesAtMost}
-use Rattle.labsys.specs.Commands.{Due, due, due_of_check, due_of_play, due_of_upgrade, due_of_view, ends_with, reads_source}
+use Rattle.labsys.specs.Commands.{Due, due, due_of_check, due_of_play, due_of_upgrade, due_of_view, ends_with}
 use Rattle.labsys.specs.Playing.{ChecksWorld, CommandDid, EndsAs, PlaysWorld, UpgradesWorld, ViewsWorld}
 use Rattle.labsys.specs.Readable.{InputReadable, SessionReadable}
 use Rattle.lab_text.specs.Text.{parse_label}
@@ -51,7 +51,7 @@ use Rattle.lab_engine.specs.UpgradeInput.{upgrade_at, upgrade_in, upgrade_of}
 use Rattle.world_text.specs.declared.format.Format.{Format}
 use Rattle.world_text.specs.declared.format.Format.TheVariants.{One, Two}
 use Rattle.labsys.proofs.AcceptedLemmas.{IsPlayable, accepted_input}
-use Rattle.labsys.proofs.InputLemmas.{due_without_world, format_of, no_calls, reads_nothing, reads_within, text_left}
+use Rattle.labsys.proofs.InputLemmas.{due_without_world, format_of, no_calls, reads_input, reads_nothing, reads_within, text_left}
 use Rattle.labsys.proofs.ReadableLemmas.{input_played, input_without_world}
 
 -- ---- a run that failed
@@ -243,7 +243,7 @@ module _ {format : Format} (x : Opened) (left between : Option (List ℕ)) (open
     abbrev ended : OpensInput format (Ok (opened.Ended ending)) left between
     ended = subst (λ k. OpensInput format (Ok k) left between) is opens
 
-    pub ended_writes : (c : Command) → reads_source c ≡ true → format_of c ≡ format → (r : Result InputEnd Fault) (n n' : ℕ) (o o' t : SinkView) → ((u v : ℕ) → counts n' u v ≡ counts n u v) → ((source : ℕ) (trail : SinkView) → Writes r (to_out (last_text 0 ending)) (ends source o trail) (ends source o' trail)) → IfOk r (λ e. e ≡ ending)
+    pub ended_writes : (c : Command) → reads_input c ≡ true → format_of c ≡ format → (r : Result InputEnd Fault) (n n' : ℕ) (o o' t : SinkView) → ((u v : ℕ) → counts n' u v ≡ counts n u v) → ((source : ℕ) (trail : SinkView) → Writes r (to_out (last_text 0 ending)) (ends source o trail) (ends source o' trail)) → IfOk r (λ e. e ≡ ending)
         → CommandDid c r left between (ends n o t) (ends n' o' t)
     ended_writes c reads same r n n' o o' t still writes is =
         let text = ended.taken ++ left_of between in

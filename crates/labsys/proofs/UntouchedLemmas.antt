@@ -8,7 +8,7 @@ use Rattle.lab_engine.specs.Order.{IsInOrder}
 use Rattle.lab_engine.specs.Playing.{Ends, ends}
 use Rattle.lab_engine.proofs.Sending.{prefix_nothing, stops_at_once}
 use Rattle.labsys.specs.declared.command.Command.{Command}
-use Rattle.labsys.specs.declared.command.Command.TheVariants.{Play, Check, Gen, Drill, View, Upgrade}
+use Rattle.labsys.specs.declared.command.Command.TheVariants.{Play, Check, Gen, Drill, View, Upgrade, Select, Lineage}
 use Rattle.labsys.specs.declared.status.Status.TheVariants as status
 use Rattle.labsys.specs.Clauses.{WhereReported, reports, reports_used}
 use Rattle.labsys.specs.Commands.{LeavesAlone, due, reads_source}
@@ -30,6 +30,8 @@ untouched_alone (Some (Gen n)) source out trail s o t = (s, t)
 untouched_alone (Some (Drill n)) source out trail s o t = (s, t)
 untouched_alone (Some (View word)) source out trail s o t = t
 untouched_alone (Some Upgrade) source out trail s o t = t
+untouched_alone (Some (Select word)) source out trail s o t = t
+untouched_alone (Some Lineage) source out trail s o t = t
 
 -- a command for which memory runs out at once does nothing
 did_nothing : (c : Command) (l : Option (List ℕ)) (e : Ends) → CommandDid c (Err NoMemory) l l e e

@@ -1,5 +1,5 @@
 -- The commands: which words name one, and what each is to write of the bytes of a source.
-use Rattle.std.specs.Prelude.{ℕ, ◌≤◌, Bool, true, false, cond, List, [], ◌∷◌, Option, Some, None, codes, string_bytes}
+use Rattle.std.specs.Prelude.{ℕ, ◌≤◌, Bool, true, false, cond, List, [], ◌∷◌, Option, Some, None, Result, codes, string_bytes}
 use Rattle.std.specs.Option.{option_map}
 use Rattle.std.specs.declared.string.String.{String}
 use Rattle.std.specs.declared.alloc.Global.{Global}
@@ -9,12 +9,16 @@ use Rattle.gen_world.specs.declared.generator.TheConstants.{MAX_LINES}
 use Rattle.gen_world.specs.Text.{gen_text}
 use Rattle.lab_text.specs.Names.{same_bytes}
 use Rattle.lab_usage.specs.Words.{is_argument}
+use Rattle.aud_red.specs.declared.trail.Trail.{Trail}
 use Rattle.labsys.specs.declared.command.Command.{Command}
-use Rattle.labsys.specs.declared.command.Command.TheVariants.{Play, Check, Gen, Drill, View, Upgrade}
+use Rattle.labsys.specs.declared.command.Command.TheVariants.{Play, Check, Gen, Drill, View, Upgrade, Select, Lineage}
 use Rattle.lab_engine.specs.declared.ending.InputEnd.{InputEnd}
 use Rattle.lab_engine.specs.declared.ending.InputEnd.TheVariants.{Whole, Refused as IsRefused, TooMuch}
 use Rattle.labsys.specs.Checking.{order_of_check}
 use Rattle.labsys.specs.Drilling.{drilled_text}
+use Rattle.labsys.specs.LineageText.{ending_of_lineage, text_of_lineage}
+use Rattle.labsys.specs.Selecting.{ending_by_word, text_of_select}
+use Rattle.labsys.specs.Trails.{trail_in}
 use Rattle.labsys.specs.Upgrading.{order_of_upgrade}
 use Rattle.labsys.specs.Viewing.{ending_of_view, text_of_view}
 use Rattle.labsys.specs.declared.status.Status.{Status}
@@ -29,9 +33,11 @@ use Rattle.lab_engine.specs.UpgradeInput.{UpgradeInput, upgrade_of}
 abbrev pub lines_of : List ℕ → Option ℕ
 lines_of word = numeral 10 6 1 MAX_LINES word
 
--- the command that a word names without an argument: `check` or `upgrade`
+-- the command that a word names without an argument: `check`, `upgrade` or `lineage`
 abbrev pub command_alone : List ℕ → Option Command
-command_alone word = cond (same_bytes word (codes "check")) (Some Check) (keep_if (same_bytes word (codes "upgrade")) Upgrade)
+command_alone word =
+    cond (same_bytes word (codes "check")) (Some Check)
+    (cond (same_bytes word (codes "upgrade")) (Some Upgrade) (keep_if (same_bytes word (codes "lineage")) Lineage))
 
 -- the command that a word names with how many lines are asked for: `gen N` or `drill N`
 abbrev pub command_of_lines : List ℕ → List ℕ → Option Command
@@ -39,11 +45,12 @@ command_of_lines word argument =
     cond (same_bytes word (codes "gen")) (option_map Gen (lines_of argument))
     (cond (same_bytes word (codes "drill")) (option_map Drill (lines_of argument)) None)
 
--- the command that a word names with an argument: `play FILE`, `view LABEL`, or one with how many lines are asked for
+-- the command that a word names with an argument: `play FILE`, `view LABEL`, `select SPEC`, or one with how many lines are asked for
 abbrev pub command_with : List ℕ → List ℕ → Option Command
 command_with word argument =
     cond (same_bytes word (codes "play")) (keep_if (is_argument argument) Play)
-    (cond (same_bytes word (codes "view")) (keep_if (is_argument argument) (View argument)) (command_of_lines word argument))
+    (cond (same_bytes word (codes "view")) (keep_if (is_argument argument) (View argument))
+    (cond (same_bytes word (codes "select")) (keep_if (is_argument argument) (Select argument)) (command_of_lines word argument)))
 
 -- the command that the words name, if they name one
 abbrev pub command_of : List (String Global) → Option Command
@@ -59,6 +66,8 @@ FitsCommand (Gen n) = (1 ≤ n) × (n ≤ MAX_LINES)
 FitsCommand (Drill n) = (1 ≤ n) × (n ≤ MAX_LINES)
 FitsCommand (View word) = Unit {0}
 FitsCommand Upgrade = Unit {0}
+FitsCommand (Select word) = Unit {0}
+FitsCommand Lineage = Unit {0}
 
 -- ---- what is due
 
@@ -89,6 +98,14 @@ due_of_view word i = record { order = to_out (text_of_view word i.accepted i.scr
 abbrev pub due_of_upgrade : UpgradeInput → Due
 due_of_upgrade i = record { order = order_of_upgrade i; status = ends_with i.script.ending }
 
+-- what is due of a trail of which a word picks records
+abbrev pub due_of_select : List ℕ → Result Trail InputEnd → Due
+due_of_select word t = record { order = to_out (text_of_select word t); status = ends_with (ending_by_word word t) }
+
+-- what is due of a trail whose records may follow one another or not
+abbrev pub due_of_lineage : Result Trail InputEnd → Due
+due_of_lineage t = record { order = to_out (text_of_lineage t); status = ends_with (ending_of_lineage t) }
+
 -- what is due of a command, by the bytes of the source
 abbrev pub due : Command → List ℕ → Due
 due Play text = due_of_play (input_of text)
@@ -97,6 +114,8 @@ due (Gen n) text = record { order = to_out (gen_text n); status = Done }
 due (Drill n) text = record { order = to_out (drilled_text n); status = Done }
 due (View word) text = due_of_view word (input_of text)
 due Upgrade text = due_of_upgrade (upgrade_of text)
+due (Select word) text = due_of_select word (trail_in text)
+due Lineage text = due_of_lineage (trail_in text)
 
 -- ---- the ends
 
@@ -108,6 +127,8 @@ reads_source (Gen n) = false
 reads_source (Drill n) = false
 reads_source (View word) = true
 reads_source Upgrade = true
+reads_source (Select word) = true
+reads_source Lineage = true
 
 -- whether a command writes to the trail
 abbrev pub writes_trail : Command → Bool
@@ -117,6 +138,8 @@ writes_trail (Gen n) = false
 writes_trail (Drill n) = false
 writes_trail (View word) = false
 writes_trail Upgrade = false
+writes_trail (Select word) = false
+writes_trail Lineage = false
 
 -- which ends a command leaves as they were: without a command all of them
 abbrev pub LeavesAlone : Option Command → (source out trail : Type 0) → Type 0
@@ -127,3 +150,5 @@ LeavesAlone (Some (Gen n)) source out trail = source × trail
 LeavesAlone (Some (Drill n)) source out trail = source × trail
 LeavesAlone (Some (View word)) source out trail = trail
 LeavesAlone (Some Upgrade) source out trail = trail
+LeavesAlone (Some (Select word)) source out trail = trail
+LeavesAlone (Some Lineage) source out trail = trail

@@ -2,6 +2,9 @@ pub mod Checking
 pub mod Viewing
 pub mod Upgrading
 pub mod Drilling
+pub mod Trails
+pub mod Selecting
+pub mod LineageText
 pub mod Commands
 pub mod Counts
 pub mod Readable

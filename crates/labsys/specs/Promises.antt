@@ -1,4 +1,4 @@
--- What `play`, `view` and `upgrade` promise, where the ends that they use report their bytes.
+-- What `play`, `view`, `upgrade` and `lineage` promise, where the ends that they use report their bytes.
 use Rattle.std.specs.Prelude.{◌≡◌, ℕ, List, Some}
 use Rattle.lab_lattice.specs.Label.{Label}
 use Rattle.lab_text.specs.Text.{parse_label}
@@ -7,11 +7,12 @@ use Rattle.lab_engine.specs.Input.{Accepted, Script}
 use Rattle.lab_engine.specs.Session.{session_of}
 use Rattle.lab_engine.specs.Viewing.{session_alone, view_text}
 use Rattle.lab_engine.specs.Upgrading.{UpgradedTo}
-use Rattle.labsys.specs.declared.command.Command.TheVariants.{Upgrade, View}
+use Rattle.labsys.specs.declared.command.Command.TheVariants.{Lineage, Upgrade, View}
 use Rattle.labsys.specs.declared.status.Status.{Status}
 use Rattle.labsys.specs.declared.status.Status.TheVariants.{Done, ReadFault}
 use Rattle.labsys.specs.Clauses.{Reports, reports_used, run_of, OnWhole, WhereReported, WhereAccepted, PlayedTaken, Covered, RepliesFirst, Printed, Dropped, Isolated, IsolatedWhole, SameBelow, TwoInputs, TwoWhole}
 use Rattle.labsys.specs.Lineage.{PrintedByAny}
+use Rattle.labsys.specs.LineageText.{SaysLineage}
 
 -- the world was accepted, and P holds of it, of its script, and of what the output and the trail got
 abbrev pub OnAccepted : Reports → Reports → (Accepted → Script → List ℕ → List ℕ → Type 0) → Type 0
@@ -55,3 +56,9 @@ pub record Upgrades (status : Status) (old now : Reports) : Type 0 where
   -- The output is the canonical text of the world, and after it each line behind the line `script`, unchanged. Where no line is too long, nor the output as a
   -- whole, it is the same input.
   pub upgraded : status ≡ Done → WhereReported (reports_used Upgrade old) (reports_used Upgrade now) (λ text out trail. UpgradedTo text out)
+
+-- a run of `lineage`, with this status
+pub record ChecksLineage (status : Status) (old now : Reports) : Type 0 where
+  -- The input is the text of a trail. The output is `yes` and the number of its records, each of which may come after those before it; or it is `no`, with the
+  -- line of the first record that may not, and why.
+  pub answers : status ≡ Done → WhereReported (reports_used Lineage old) (reports_used Lineage now) (λ text out trail. SaysLineage text out)

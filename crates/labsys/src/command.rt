@@ -9,13 +9,13 @@ use lab_usage::words_given;
 use std::alloc::{AllocError, Global};
 use std::marker::Model;
 
-/// The word of a label among the arguments. A contract sees it as its bytes.
+/// The argument of `view` or `select`. A contract sees it as its bytes.
 #[derive(Drop)]
-pub struct LabelWord<'a> {
+pub struct Argument<'a> {
     bytes: &'a [u8],
 }
 
-impl<'a> Model for LabelWord<'a> {
+impl<'a> Model for Argument<'a> {
     ghost use Rattle.std.specs.Prelude.{ℕ, List};
 
     ghost Value = { List ℕ };
@@ -23,12 +23,12 @@ impl<'a> Model for LabelWord<'a> {
     ghost view = { λ w. w.bytes.now };
 }
 
-impl<'a> LabelWord<'a> {
-    // The word with these bytes.
-    fn new(bytes: &'a [u8]) -> LabelWord<'a>
+impl<'a> Argument<'a> {
+    // The argument with these bytes.
+    fn new(bytes: &'a [u8]) -> Argument<'a>
         ensures { result ≡ bytes.now }
     {
-        LabelWord { bytes }
+        Argument { bytes }
     }
 
     /// Its bytes.
@@ -51,9 +51,13 @@ pub enum Command<'a> {
     /// `drill N` plays the generated input of N lines, and writes how its calls were answered.
     Drill(u32),
     /// `view LABEL` plays the world and the script that the source holds, and writes what the label sees of it.
-    View(LabelWord<'a>),
+    View(Argument<'a>),
     /// `upgrade` reads the world and the script of the old format that the source holds, and writes them in the format of today.
     Upgrade,
+    /// `select SPEC` reads the trail that the source holds, and writes the records that SPEC picks as lines of JSON.
+    Select(Argument<'a>),
+    /// `lineage` reads the trail that the source holds, and writes whether each record may follow those before it.
+    Lineage,
 }
 
 // How many lines a word asks for: 1 to 6 digits, of a value from 1 to 100,000.
@@ -71,7 +75,10 @@ fn command_alone(word: &[u8]) -> Option<Command<'static>>
     if word == b"check".as_slice() {
         return Some(Command::Check);
     }
-    (word == b"upgrade".as_slice()).then_some(Command::Upgrade)
+    if word == b"upgrade".as_slice() {
+        return Some(Command::Upgrade);
+    }
+    (word == b"lineage".as_slice()).then_some(Command::Lineage)
 }
 
 // The command that a word names with how many lines are asked for.
@@ -90,11 +97,16 @@ fn command_with<'a>(word: &[u8], argument: &'a [u8]) -> Option<Command<'a>>
     requires { is_argument argument.now ≡ true }
     ensures { result ≡ command_with word.now argument.now }
 {
-    match word {
-        b"play" => Some(Command::Play),
-        b"view" => Some(Command::View(LabelWord::new(argument))),
-        _ => command_of_lines(word, argument),
+    if word == b"play".as_slice() {
+        return Some(Command::Play);
     }
+    if word == b"view".as_slice() {
+        return Some(Command::View(Argument::new(argument)));
+    }
+    if word == b"select".as_slice() {
+        return Some(Command::Select(Argument::new(argument)));
+    }
+    command_of_lines(word, argument)
 }
 
 /// The command that the arguments name. The file of `play` is not opened.

@@ -5,15 +5,18 @@ mod checking;
 mod command;
 mod drilling;
 mod generating;
+mod lineage;
 mod performing;
 mod playing;
 mod running;
+mod selecting;
 mod session;
 mod status;
+mod trails;
 mod upgrading;
 mod viewing;
 
-pub use command::{Command, LabelWord};
+pub use command::{Argument, Command};
 use io_ends::{FileSink, FileSource};
 pub use running::run;
 pub use status::Status;
@@ -97,8 +100,8 @@ fn explain_fault(rt: &HostRuntime, end: &str, cause: Option<io::Error>) {
 // Says that standard input is read, where a terminal waits for it to be typed.
 fn announce_input(rt: &HostRuntime, words: &[String]) {
     let reads = match words {
-        [word] => word.as_str() == "check" || word.as_str() == "upgrade",
-        [word, _] => word.as_str() == "play" || word.as_str() == "view",
+        [word] => matches!(word.as_str(), "check" | "upgrade" | "lineage"),
+        [word, _] => matches!(word.as_str(), "play" | "view" | "select"),
         _ => false,
     };
     if reads && rt.stdin().is_terminal() {

@@ -12,7 +12,9 @@ use crate::Command;
 use crate::checking::check;
 use crate::drilling::drill;
 use crate::generating::generate;
+use crate::lineage::lineage;
 use crate::playing::play;
+use crate::selecting::select;
 use crate::upgrading::upgrade;
 use crate::viewing::view;
 use io_ends::{Sink, Source};
@@ -53,5 +55,7 @@ pub fn perform<S: Source, K: Sink, T: Sink>(
         }
         Command::View(word) => view(alloc, word, source, out),
         Command::Upgrade => upgrade(alloc, source, out),
+        Command::Select(word) => select(alloc, word, source, out),
+        Command::Lineage => lineage(alloc, source, out),
     }
 }

@@ -6,7 +6,7 @@ ghost use Rattle.lab_engine.specs.Order.{out_of, trail_of, IsInOrder};
 ghost use Rattle.labsys.specs.Commands.{LeavesAlone, command_of, due, reads_source};
 ghost use Rattle.lab_engine.specs.Counts.{counts};
 ghost use Rattle.labsys.specs.Counts.{counts_after};
-ghost use Rattle.labsys.specs.Promises.{Plays, Upgrades, Views};
+ghost use Rattle.labsys.specs.Promises.{ChecksLineage, Plays, Upgrades, Views};
 ghost use Rattle.labsys.specs.Clauses.{status_of, OnWhole, TakesAtMost, WhereReported, reports_of_ends, if_used, reports_used};
 
 use crate::command::command_of;
@@ -35,7 +35,9 @@ fn status_of(played: Result<InputEnd, Fault>) -> Status
 /// for it. `view LABEL` plays the input too, and writes what the label sees of it to the output. `check` reads the same
 /// input and plays nothing: it writes how many objects, processes and calls there are, or the line that refuses the
 /// input. `upgrade` reads an input of the old format, and writes it in the format of today. `gen N` writes the generated input
-/// of N lines to the output, and `drill N` plays that input and writes one line with how its calls were answered.
+/// of N lines to the output, and `drill N` plays that input and writes one line with how its calls were answered. `select SPEC`
+/// reads a trail, and writes the records that SPEC picks as lines of JSON. `lineage` reads a trail, and writes whether each of
+/// its records may come after those before it.
 pub fn run<S: Source, K: Sink, T: Sink>(
     alloc: Global,
     words: &[String],
@@ -69,6 +71,9 @@ pub fn run<S: Source, K: Sink, T: Sink>(
 
     // What `upgrade` promises besides: the same world and the same script, in the format of today.
     ensures upgrade { command_of words.now ≡ Some Command.Upgrade → Upgrades result (reports_of_ends (S.view source.old) (K.view out.old) (T.view trail.old)) (reports_of_ends (S.view source.new) (K.view out.new) (T.view trail.new)) }
+
+    // What `lineage` promises besides: each record of the trail may come after those before it, or the first that may not is named.
+    ensures lineage { command_of words.now ≡ Some Command.Lineage → ChecksLineage result (reports_of_ends (S.view source.old) (K.view out.old) (T.view trail.old)) (reports_of_ends (S.view source.new) (K.view out.new) (T.view trail.new)) }
 
     // A command that reads the source reads it to its end where the input was accepted whole.
     ensures to_the_end { IfSome (command_of words.now) (λ command. reads_source command ≡ true → result ≡ Status.Done → IsAtEnd (S.view source.new).left) }

@@ -392,7 +392,7 @@ fn one_byte_over_16_mib_is_too_long(rt: HostRuntime) -> Result<(), Fail> {
 #[test]
 fn words_that_are_no_command_touch_nothing(rt: HostRuntime) -> Result<(), Fail> {
     let alloc = rt.alloc();
-    let rows: [&[&str]; 34] = [
+    let rows: [&[&str]; 37] = [
         &[],
         &["frob", "trail.out"],
         &["play"],
@@ -414,6 +414,9 @@ fn words_that_are_no_command_touch_nothing(rt: HostRuntime) -> Result<(), Fail> 
         &["drill", "100001"],
         &["check", "trail.out"],
         &["upgrade", "trail.out"],
+        &["lineage", "trail.out"],
+        &["select"],
+        &["select", ""],
         &["view"],
         &["view", ""],
         &["view", "-unc"],
@@ -822,4 +825,43 @@ fn a_fault_of_upgrade_leaves_what_stands_before_it(rt: HostRuntime) -> Result<()
     ];
     let input: Pieces = &[OLD, WIDE, b"\n", CALL];
     faults_leave(&rt, rt.alloc(), &["upgrade"], input, &rows)
+}
+
+// The lines of the two records of the worked trail.
+const BOOT_LINE: &[u8] =
+    b"{\"call\":0,\"caps\":\"cap_mac_read=ep\",\"event\":\"boot\",\"label\":\"unc\",\"pid\":\"1@unc\"}\n";
+
+const EXERCISE_LINE: &[u8] =
+    b"{\"call\":1,\"cap\":\"cap_mac_read\",\"check\":\"mac_read\",\"event\":\"exercise\",\"label\":\"unc\",\
+      \"new\":null,\"pid\":\"1@unc\",\"place\":\"p1\",\"thing\":\"obj:1@sec\",\"thing_label\":\"sec\"}\n";
+
+#[test]
+fn a_fault_of_select_leaves_what_stands_before_it(rt: HostRuntime) -> Result<(), Fail> {
+    let rows: [(Fails, Status, Pieces); 5] = [
+        (Fails::Read(2), Status::ReadFault, &[]),
+        (Fails::Write(1), Status::WriteFault, &[]),
+        (Fails::Write(2), Status::WriteFault, &[BOOT_LINE]),
+        (
+            Fails::Write(3),
+            Status::WriteFault,
+            &[BOOT_LINE, EXERCISE_LINE],
+        ),
+        (
+            Fails::Nothing,
+            Status::Done,
+            &[BOOT_LINE, EXERCISE_LINE, b"done 2\n"],
+        ),
+    ];
+    faults_leave(&rt, rt.alloc(), &["select", "all"], TRAIL, &rows)
+}
+
+#[test]
+fn a_fault_of_lineage_leaves_nothing(rt: HostRuntime) -> Result<(), Fail> {
+    let rows: [(Fails, Status, Pieces); 4] = [
+        (Fails::Read(1), Status::ReadFault, &[]),
+        (Fails::Read(2), Status::ReadFault, &[]),
+        (Fails::Write(1), Status::WriteFault, &[]),
+        (Fails::Nothing, Status::Done, &[b"yes 2\n"]),
+    ];
+    faults_leave(&rt, rt.alloc(), &["lineage"], TRAIL, &rows)
 }

@@ -14,7 +14,7 @@ ghost use Rattle.labsys.specs.Playing.{CommandDid, ViewsWorld};
 
 use crate::playing::{end_without_world, finish};
 use crate::session::Session;
-use crate::{Command, LabelWord};
+use crate::{Argument, Command};
 use io_ends::{Sink, Source, SureSink};
 use kern_core::Kernel;
 use lab_engine::{
@@ -100,7 +100,7 @@ fn view_world<S: Source, K: Sink>(
 }
 
 // The label that a word denotes.
-fn label_named(policy: &Policy, word: &LabelWord<'_>) -> Option<Label>
+fn label_named(policy: &Policy, word: &Argument<'_>) -> Option<Label>
     ensures { result ≡ parse_label policy.now word.now }
 {
     mac_from_text(policy, word.bytes()).ok()
@@ -110,7 +110,7 @@ fn label_named(policy: &Policy, word: &LabelWord<'_>) -> Option<Label>
 /// that crosses the label, and the line `crossed`, or else the end lines and how many replies were written.
 pub fn view<S: Source, K: Sink>(
     alloc: Global,
-    word: LabelWord<'_>,
+    word: Argument<'_>,
     source: &mut S,
     out: &mut K,
 ) -> Result<InputEnd, Fault>

@@ -2,8 +2,8 @@
 ghost use Rattle.std.specs.Prelude.{◌≡◌};
 ghost use Rattle.line_text.specs.Faults.{fault_word};
 
-/// What is wrong with a line of a world or of a script. Of several faults the first that is listed here counts; in a line
-/// of levels, categories or grades `TooMany` counts before `Repeated`.
+/// What is wrong with a line of a world, of a script or of a trail. Of several faults the first that is listed here counts; in a
+/// line of levels, categories or grades `TooMany` counts before `Repeated`.
 #[derive(Clone, Copy, Debug, PartialEq, Eq)]
 pub enum LineFault {
     /// A line of the script has more than 2,048 bytes.
@@ -35,6 +35,12 @@ pub enum LineFault {
     BadLabel,
     /// A capability text of a call is invalid.
     BadCaps,
+    /// The trail ends inside the line, or before its header does.
+    Unended,
+    /// It is not the line of the trail's header that is expected there, as the trail writes it.
+    Header,
+    /// It is not a record as the trail writes it, or its call's number is below that of the record before.
+    Record,
 }
 
 impl LineFault {
@@ -58,6 +64,9 @@ impl LineFault {
             LineFault::BadPath => b"bad_path",
             LineFault::BadLabel => b"bad_label",
             LineFault::BadCaps => b"bad_caps",
+            LineFault::Unended => b"unended",
+            LineFault::Header => b"header",
+            LineFault::Record => b"record",
         }
     }
 }

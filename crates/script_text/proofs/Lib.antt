@@ -3,3 +3,5 @@ pub mod LineLemmas
 pub mod LineLaws
 pub mod ToolLemmas
 pub mod CallLemmas
+pub mod StepLaws
+pub mod StepLemmas

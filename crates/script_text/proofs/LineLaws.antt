@@ -51,7 +51,7 @@ use Rattle.std.proofs.lemmas.Option.{cond_some}
 
 -- ---- values that are there
 
-there : {X : Type 0} (o : Option X) (e : LineError) (x : X) → ok_or o e ≡ Ok x → o ≡ Some x
+pub there : {X : Type 0} (o : Option X) (e : LineError) (x : X) → ok_or o e ≡ Ok x → o ≡ Some x
 there None e x h = absurd (cc)
 there (Some y) e x h = cc
 
@@ -155,7 +155,7 @@ module _ (policy : PolicyNames) where
           let is : record { label = x; n = n } ≡ who = cc in
           ap (is_number (top_of policy)) (sym is) ∙ and_from _ _ (and_from _ _ (within n refl).0 (within n refl).1) (below x refl)
 
-  tag_fine : (w : List ℕ) (who : Pid) → a_tag policy w ≡ Ok who → is_number (top_of policy) who ≡ true
+  pub tag_fine : (w : List ℕ) (who : Pid) → a_tag policy w ≡ Ok who → is_number (top_of policy) who ≡ true
   unfolding a_tag
   tag_fine w who h = by_split (split_once 64 w) (there _ _ who h)
     where
@@ -249,7 +249,7 @@ module _ (policy : PolicyNames) where
   three_fine name.Chown u v w c h = from_three call.Chown _ _ _ c h (λ path user group _ _ _. (refl, refl))
   three_fine _ u v w c h = absurd (cc)
 
-  call_fine : (n : CallName) (ws : List (List ℕ)) (c : Call) → parse_call policy n ws ≡ Ok c → MayBeMade c
+  pub call_fine : (n : CallName) (ws : List (List ℕ)) (c : Call) → parse_call policy n ws ≡ Ok c → MayBeMade c
   call_fine n [] c h = none_fine n c h
   call_fine n (w ∷ []) c h = one_fine n w c h
   call_fine n (v ∷ w ∷ []) c h = two_fine n v w c h

@@ -3,3 +3,5 @@ pub mod Argument
 pub mod Calls
 pub mod Tools
 pub mod Line
+pub mod StepWords
+pub mod Step

@@ -1,6 +1,7 @@
 // What no clause says: what each call's line looks like, and a table of faults. The cases have the replies.
 mod calls;
 mod faults;
+mod steps;
 
 use lab_text::{Policy, PolicyError, Word};
 use script_text::NoMemory;

@@ -1,5 +1,6 @@
 use Rattle.std.proofs.Common.{◌∙◌, refl, sym}
 use Rattle.labsys.proofs.ClauseLemmas.{as_play, as_upgrade, as_view, is_play, is_upgrade, run_counts, run_ending, run_few, run_order, run_play, run_read_fault, run_to_the_end, run_trail_fault, run_upgrade, run_view, run_whole}
+use Rattle.labsys.proofs.LineageAnswers.{as_lineage, is_lineage, run_lineage}
 use Rattle.labsys.proofs.PerformLemmas.{left_alone}
 use Rattle.labsys.proofs.InputLemmas.{reads_nothing}
 use Rattle.labsys.proofs.UntouchedLemmas.{untouched_alone, untouched_order, untouched_play, untouched_read_fault, untouched_to_the_end, where_named}
@@ -33,6 +34,10 @@ returns-in-Some-clause-play g c = λ play.
 
 pub returns-in-Some-clause-view : goal.returns-in-Some-clause-view
 returns-in-Some-clause-view g c = λ word view. run_view word c.perform.result _ _ _ _ (as_view _ _ word _ _ _ _ _ (sym c.in-Ok.ensures.command ∙ c.in-Some.is) view c.perform.ensures.did) _ c.status_of.ensures
+
+pub returns-in-Some-clause-lineage : goal.returns-in-Some-clause-lineage
+returns-in-Some-clause-lineage g c = λ lineage.
+    run_lineage c.perform.result _ _ _ _ (as_lineage _ _ _ _ _ _ (is_lineage _ _ (sym c.in-Ok.ensures.command ∙ c.in-Some.is) lineage) c.perform.ensures.did) _ c.status_of.ensures
 
 pub returns-in-Some-clause-upgrade : goal.returns-in-Some-clause-upgrade
 returns-in-Some-clause-upgrade g c = λ upgrade.
@@ -70,6 +75,9 @@ returns-in_default-clause-play g c = λ play. untouched_play _ _ _
 
 pub returns-in_default-clause-view : goal.returns-in_default-clause-view
 returns-in_default-clause-view g c = λ word view. record { view_alone = λ l done. cc }
+
+pub returns-in_default-clause-lineage : goal.returns-in_default-clause-lineage
+returns-in_default-clause-lineage g c = λ lineage. record { answers = λ done. cc }
 
 pub returns-in_default-clause-upgrade : goal.returns-in_default-clause-upgrade
 returns-in_default-clause-upgrade g c = λ upgrade. record { upgraded = λ done. cc }

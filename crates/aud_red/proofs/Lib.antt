@@ -1,0 +1,9 @@
+pub mod PickLemmas
+pub mod TermLemmas
+pub mod TrailLemmas
+pub mod Printable
+pub mod Unquoted
+pub mod ObjectLemmas
+pub mod KeyOrder
+pub mod JsonText
+pub mod LineageLemmas

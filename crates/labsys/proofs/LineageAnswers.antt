@@ -1,0 +1,104 @@
+-- What `lineage` says of a trail.
+use Rattle.std.proofs.Common.{◌≡◌, ◌⊎◌, inl, inr, ℕ, Bool, true, false, cond, nat_lt, List, length, refl, sym, ◌∙◌, ap, subst}
+use Rattle.std.specs.Prelude.{Option, Some, Result, Ok, Err}
+use Rattle.kern_model.specs.declared.limits.TheConstants.{MAX_INPUT}
+use Rattle.aud_red.specs.declared.lineage.Lineage.{Lineage as Answer}
+use Rattle.aud_red.specs.declared.lineage.Lineage.TheVariants.{Yes, No}
+use Rattle.aud_red.specs.declared.lineage.Why.{Why}
+use Rattle.aud_red.specs.declared.trail.Trail.{Trail}
+use Rattle.aud_red.specs.declared.trail.TrailError.{TrailError}
+use Rattle.aud_red.specs.Lineage.{FailsAt, IfNo, lineage_of, recs_of}
+use Rattle.aud_red.specs.Trail.{parse_trail}
+use Rattle.aud_red.proofs.LineageLemmas.{no_found, yes_found}
+use Rattle.aud_red.proofs.TrailLemmas.{trail_is}
+use Rattle.lab_engine.specs.declared.ending.Fault.{Fault}
+use Rattle.lab_engine.specs.declared.ending.InputEnd.{InputEnd}
+use Rattle.lab_engine.specs.declared.ending.InputEnd.TheVariants.{TooMuch}
+use Rattle.lab_engine.specs.Order.{out_of, trail_of}
+use Rattle.lab_engine.specs.Playing.{Ends}
+use Rattle.lab_engine.proofs.Sending.{out_of-to_out}
+use Rattle.labsys.specs.declared.command.Command.{Command}
+use Rattle.labsys.specs.declared.command.Command.TheVariants.{Lineage}
+use Rattle.labsys.specs.declared.status.Status.{Status}
+use Rattle.labsys.specs.declared.status.Status.TheVariants.{Done}
+use Rattle.labsys.specs.Clauses.{OnWhole, WhereReported, if_used, reports, reports_used, status_of}
+use Rattle.labsys.specs.Commands.{due, ends_with, reads_source}
+use Rattle.labsys.specs.LineageText.{SaysLineage, SaysNo, SaysYes, ending_of_lineage, lineage_text, line_for, text_of_lineage}
+use Rattle.labsys.specs.Playing.{CommandDid}
+use Rattle.labsys.specs.Promises.{ChecksLineage}
+use Rattle.labsys.specs.Trails.{trail_by, trail_in}
+use Rattle.labsys.proofs.ClauseLemmas.{did_used, ends_by, ends_whole, run_all}
+use Rattle.labsys.proofs.TrailLemmas.{not_whole}
+
+-- ---- a trail
+
+read_by : (r : Result Trail TrailError) (t : Trail) → trail_by r ≡ Ok t → r ≡ Ok t
+read_by (Ok u) t is = cc
+read_by (Err e) t is = absurd (cc)
+
+-- bytes that are a trail are read as it
+trail_parsed : (text : List ℕ) (t : Trail) → trail_in text ≡ Ok t → parse_trail text ≡ Ok t
+unfolding trail_in
+trail_parsed text t is = by_test (nat_lt MAX_INPUT (length text)) is
+  where
+    by_test : (b : Bool) → cond b (Err TooMuch) (trail_by (parse_trail text)) ≡ Ok t → parse_trail text ≡ Ok t
+    by_test true e = absurd (cc)
+    by_test false e = read_by (parse_trail text) t e
+
+-- the line of a trail says what the answer means
+module _ (t : Trail) where
+  abbrev answer : Result Answer Fault
+  answer = Ok (lineage_of t.bound (recs_of t))
+
+  says_yes : lineage_of t.bound (recs_of t) ≡ Yes → SaysYes t (lineage_text t)
+  says_yes is = record { line = ap (line_for t) is; follow = (yes_found t.bound (recs_of t) answer refl).0 is }
+
+  says_no : (at : ℕ) (why : Why) → lineage_of t.bound (recs_of t) ≡ No at why → SaysNo t (lineage_text t)
+  says_no at why is = record {
+    at = at;
+    why = why;
+    line = ap (line_for t) is;
+    fails = subst (λ l. IfNo l (FailsAt t.bound (recs_of t))) is (no_found t.bound (recs_of t) answer refl);
+  }
+
+  says_either : (l : Answer) → lineage_of t.bound (recs_of t) ≡ l → SaysYes t (lineage_text t) ⊎ SaysNo t (lineage_text t)
+  says_either Yes is = inl (says_yes is)
+  says_either (No at why) is = inr (says_no at why is)
+
+-- ---- a run
+
+says_lineage : (text out : List ℕ) (found : Result Trail InputEnd) → trail_in text ≡ found → Done ≡ ends_with (ending_of_lineage found) → out ≡ text_of_lineage found → SaysLineage text out
+says_lineage text out (Ok t) is done writes = record {
+  trail = t;
+  text_is = trail_is text t (trail_parsed text t is);
+  says = subst (λ (z : List ℕ). SaysYes t z ⊎ SaysNo t z) (sym writes) (says_either t (lineage_of t.bound (recs_of t)) refl);
+}
+says_lineage text out (Err ending) is done writes = absurd (not_whole text ending is (ends_whole ending done))
+
+pub is_lineage : (o : Option Command) (c : Command) → o ≡ Some c → o ≡ Some Lineage → c ≡ Lineage
+is_lineage o c is lineage = let same : Some c ≡ Some Lineage = sym is ∙ lineage in cc
+
+pub as_lineage : (c : Command) (r : Result InputEnd Fault) (l l' : Option (List ℕ)) (entry exit : Ends) → c ≡ Lineage → CommandDid c r l l' entry exit → CommandDid Lineage r l l' entry exit
+as_lineage c r l l' entry exit is x = subst (λ (k : Command). CommandDid k r l l' entry exit) is x
+
+-- all that `lineage` promises
+pub run_lineage : (r : Result InputEnd Fault) (l l' : Option (List ℕ)) (entry exit : Ends) → CommandDid Lineage r l l' entry exit → (s : Status) → s ≡ status_of r
+    → ChecksLineage s (reports l entry.out.held entry.trail.held) (reports l' exit.out.held exit.trail.held)
+run_lineage r l l' entry exit x s is = record { answers = answered }
+  where
+    answered : s ≡ Done → WhereReported (reports_used Lineage (reports l entry.out.held entry.trail.held)) (reports_used Lineage (reports l' exit.out.held exit.trail.held)) (λ text out trail. SaysLineage text out)
+    answered done text before above el eo et =
+        let all = subst (λ z. OnWhole z (WhereReported (reports_used Lineage (reports l entry.out.held entry.trail.held)) (reports_used Lineage (reports l' exit.out.held exit.trail.held)) (λ text out trail. (out ≡ out_of (due Lineage text).order) × (trail ≡ trail_of (due Lineage text).order)))) done (run_all Lineage r _ _ _ _ (did_used Lineage r l l' entry exit x) s is) in
+        let ends = subst (λ z. OnWhole z ((text : List ℕ) → if_used (reads_source Lineage) l ≡ Some text → z ≡ (due Lineage text).status)) done (ends_by Lineage r _ _ _ _ (did_used Lineage r l l' entry exit x) s is) in
+        let m = all text before above el eo et in
+        record {
+          taken = m.taken;
+          rest = m.rest;
+          out = m.out;
+          trail = m.trail;
+          text_is = m.text_is;
+          left_is = m.left_is;
+          out_is = m.out_is;
+          trail_is = m.trail_is;
+          holds = says_lineage text m.out (trail_in text) refl (ends text el) (m.holds.0 ∙ out_of-to_out (text_of_lineage (trail_in text)));
+        }

@@ -1,0 +1,16 @@
+pub mod LowParts
+pub mod Moves
+pub mod NextTurns
+pub mod Processes
+pub mod TurnLaws
+pub mod Turns
+pub mod Loops
+pub mod Laws
+pub mod Living
+pub mod StandingLemmas
+pub mod Followed
+pub mod MoveLemmas
+pub mod SeenLemmas
+pub mod ScheduleLemmas
+pub mod RoundLemmas
+pub mod StartingLemmas

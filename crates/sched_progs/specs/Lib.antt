@@ -1,0 +1,9 @@
+pub mod Programs
+pub mod Turns
+pub mod Loop
+pub mod Laws
+pub mod Watching
+pub mod Standings
+pub mod Running
+pub mod Starting
+pub mod Scheduling
