@@ -2,11 +2,12 @@
 ghost use Rattle.std.specs.Prelude.{◌≡◌, [], IfOk, IsOk};
 ghost use Rattle.kern_model.specs.declared.calls.Reply.TheVariants as reply;
 ghost use Rattle.kern_model.specs.declared.calls.Errno.TheVariants as errno;
+ghost use Rattle.kern_model.specs.declared.records.Rec.TheVariants as rec;
 ghost use Rattle.sys_lookup.specs.PlaysRow.{LeavesNothing};
 ghost use Rattle.kern_core.specs.Reports.{OutcomeOf};
 
 use chk_rules::{Checks, Stop};
-use kern_model::{CallName, Errno, NoMemory, Outcome, Pid, Rec, RecList, Reply};
+use kern_model::{CallName, CheckName, Errno, NoMemory, Outcome, Pid, Place, Rec, RecList, Reply};
 use std::alloc::Global;
 use sys_lookup::Effect;
 
@@ -17,6 +18,20 @@ pub fn no_process(alloc: Global) -> Outcome
     Outcome {
         reply: Reply::Refused(Errno::ESRCH),
         recs: RecList::new(alloc),
+    }
+}
+
+// The record of a denial.
+#[inline(never)]
+fn denial(who: &Pid, call: CallName, errno: Errno, check: CheckName, place: Place) -> Rec
+    ensures { result ≡ rec.Deny who.now call errno check place }
+{
+    Rec::Deny {
+        who: *who,
+        call,
+        errno,
+        check,
+        place,
     }
 }
 
@@ -34,37 +49,27 @@ pub fn report(
     ensures ready { LeavesNothing played → IsOk result }
 {
     let mut recs = checks.into_exercises();
-    match played {
+    let reply = match played {
         Ok(effect) => {
             let Effect { answer, own } = effect;
             if let Some(own) = own {
                 recs.push(own)?;
             }
-            let reply = Reply::Done(answer);
-            Ok(Outcome { reply, recs })
+            Reply::Done(answer)
         }
         Err(Stop::Denied(check, place)) => {
             let errno = check.errno().unwrap_or(Errno::EPERM);
             if audited {
-                recs.push(Rec::Deny {
-                    who: *who,
-                    call: name,
-                    errno,
-                    check,
-                    place,
-                })?;
+                recs.push(denial(who, name, errno, check, place))?;
             }
-            let reply = Reply::Denied {
+            Reply::Denied {
                 errno,
                 check,
                 place,
-            };
-            Ok(Outcome { reply, recs })
+            }
         }
-        Err(Stop::Refused(errno)) => {
-            let reply = Reply::Refused(errno);
-            Ok(Outcome { reply, recs })
-        }
-        Err(Stop::NoMemory(e)) => Err(e),
-    }
+        Err(Stop::Refused(errno)) => Reply::Refused(errno),
+        Err(Stop::NoMemory(e)) => return Err(e),
+    };
+    Ok(Outcome { reply, recs })
 }

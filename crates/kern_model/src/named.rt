@@ -1,5 +1,5 @@
 // Calls, checks and error numbers by their words.
-ghost use Rattle.std.specs.Prelude.{◌≡◌, ◌==◌};
+ghost use Rattle.std.specs.Prelude.{◌≡◌, ◌==◌, length};
 ghost use Rattle.std.specs.Cmp.Lexicographic.{pointwise};
 ghost use Rattle.kern_model.specs.Names.{word_of, check_word, errno_word};
 ghost use Rattle.kern_model.specs.Named.{call_named, check_named, errno_named, find_named, IsFoundBy};
@@ -132,13 +132,11 @@ fn candidates(word: &[u8]) -> &'static [CallName]
     }
 }
 
-// Whether two words are equal. For words of one length this takes fewer steps than `==` of slices does.
-fn are_equal(word: &[u8], other: &[u8]) -> bool
+// Whether two words of one length are equal. This takes fewer steps than `==` of slices does.
+fn have_same_bytes(word: &[u8], other: &[u8]) -> bool
+    requires { length word.now ≡ length other.now }
     ensures { result ≡ pointwise ◌==◌ word.now other.now }
 {
-    if word.len() != other.len() {
-        return false;
-    }
     let (mut left, mut right) = (word, other);
     while let ([first, more @ ..], [second, rest @ ..]) = (left, right) {
         if first != second {
@@ -148,6 +146,13 @@ fn are_equal(word: &[u8], other: &[u8]) -> bool
         right = rest;
     }
     true
+}
+
+// Whether two words are equal. Those of one length often differ in their last bytes, so these are compared first.
+fn are_equal(word: &[u8], other: &[u8]) -> bool
+    ensures { result ≡ pointwise ◌==◌ word.now other.now }
+{
+    word.len() == other.len() && word.last() == other.last() && have_same_bytes(word, other)
 }
 
 // The first of some calls with a word.

@@ -11,6 +11,7 @@ use kern_model::{Answer, ByteList, Check, CheckName, Pid, Place, Rec, Thing};
 use sys_lookup::{Caller, Effect, Shared};
 
 /// `aud_write`: a note is left in the trail.
+#[inline(never)]
 pub fn aud_write(
     shared: &Shared,
     checks: &mut Checks,
@@ -32,6 +33,7 @@ pub fn aud_write(
 }
 
 /// `aud_switch`: whether denials of the caller leave records is set.
+#[inline(never)]
 pub fn aud_switch(
     shared: &mut Shared,
     checks: &mut Checks,
