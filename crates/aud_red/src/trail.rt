@@ -1,5 +1,5 @@
 // The reading of a trail.
-ghost use Rattle.std.specs.Prelude.{◌≡◌, ◌+◌, ◌≤◌, IfOk, Ok, length};
+ghost use Rattle.std.specs.Prelude.{◌≡◌, ◌==◌, ◌+◌, ◌≤◌, IfOk, Ok, count_by, length};
 ghost use Rattle.std.specs.List.{All};
 ghost use Rattle.fs_path.specs.Split.{pieces};
 ghost use Rattle.aud_record.specs.Fits.{IsInRange};
@@ -14,6 +14,9 @@ use cap_bits::CapSet;
 use fs_path::List;
 use lab_text::Policy;
 use std::alloc::Global;
+
+// No line of a record has fewer bytes: the shortest is `0 note 1@a ""` with its line feed.
+const SHORTEST_LINE: usize = 14;
 
 /// A trail that was read.
 #[derive(Debug)]
@@ -65,14 +68,20 @@ pub fn header_lines(policy: &Policy) -> usize
     if policy.grades().is_empty() { 4 } else { 5 }
 }
 
+// How many line feeds a text has.
+fn line_feeds(text: &[u8]) -> usize
+    ensures { result ≡ count_by (λ b. b == 10) text.now }
+{
+    text.iter().filter(|byte| **byte == b'\n').count()
+}
+
 // What is wrong in a text that does not begin with a header.
 fn header_error(text: &[u8], error: HeaderError) -> TrailError
     ensures { result ≡ header_error text.now error }
 {
     match error {
         HeaderError::Form(number) | HeaderError::Name(number) => {
-            let feeds = text.iter().filter(|byte| **byte == b'\n').count();
-            if feeds < number {
+            if line_feeds(text) < number {
                 TrailError::Unended(number)
             } else {
                 TrailError::Header(number)
@@ -116,7 +125,8 @@ fn read_records(alloc: Global, policy: &Policy, text: &[u8]) -> Result<List<Read
     ensures { AnswersAs is_no_memory (λ recs. recs) result
         (parse_recs policy.now (bound_number policy.now + 1) 0 (pieces 10 text.now)) }
 {
-    let mut recs = List::new(alloc);
+    let room = line_feeds(text).min(text.len() / SHORTEST_LINE);
+    let mut recs = List::with_capacity(alloc, room)?;
     let mut rest = text;
     let mut number = header_lines(policy) + 1;
     let mut low = 0;

@@ -6,7 +6,7 @@ use Rattle.aud_red.proofs.trail.read_records.Goals as goal
 
 pub returns-in_err-read : goal.returns-in_err-read
 returns-in_err-read c =
-    handed_on c.from_residual.result _ c.in_err-read.field-0.0 _ c.from_residual.ensures.1
+    handed_on c.from_residual-in_err-read.result _ c.in_err-read.field-0.0 _ c.from_residual-in_err-read.ensures.1
     (read_fails _ c.loop-rest.recs c.args.policy.now c.loop-rest.number c.loop-rest.low c.loop-rest.rest.now c.in_err-read.field-0.0 (sym c.is_empty.ensures ∙ c.loop-rest-test.true) c.loop-rest.invariant.parsed c.in_err-read.ensures.parsed)
 
 pub loop-rest-smaller : goal.loop-rest-smaller
