@@ -3,7 +3,7 @@ pub mod TermLemmas
 pub mod TrailLemmas
 pub mod Printable
 pub mod Unquoted
-pub mod ObjectLemmas
-pub mod KeyOrder
 pub mod JsonText
+pub mod KeyOrder
+pub mod ObjectTextLemmas
 pub mod LineageLemmas

@@ -1,4 +1,4 @@
--- The texts of the trail are printable.
+-- The texts of the trail are printable, and all but those of notes are plain: they have neither `"` nor `\`.
 use Rattle.std.specs.Prelude.{◌≡◌, ℕ, zero, suc, ◌+◌, ◌/◌, ◌%◌, ◌<◌, ◌^◌, ◌==◌, ◌||◌, nat_le, nat_lt, Bool, true, false, cond, List, [], ◌∷◌, ◌++◌, None, Some, length, get_or, refl}
 use Rattle.std.specs.Fmt.{decimal}
 use Rattle.std.specs.List.{flat_map, list_all}
@@ -43,14 +43,15 @@ use Rattle.aud_record.specs.Written.{switch_word}
 use Rattle.aud_record.specs.declared.event.Event.{Event}
 use Rattle.aud_record.specs.declared.event.Event.TheVariants as event
 use Rattle.aud_red.specs.Json.{is_printable, are_printable, ending_kind}
+use Rattle.aud_red.specs.ObjectText.{are_plain}
 
 -- ---- bytes
 
-plain_printable : (b : ℕ) → is_plain b ≡ true → is_printable b ≡ true
-plain_printable b h = grind (arith, nat_tests)
+plain_byte : (b : ℕ) → is_plain b ≡ true → is_printable b ≡ true
+plain_byte b h = grind (arith, nat_tests)
 
-bare_printable : (b : ℕ) → is_bare b ≡ true → is_printable b ≡ true
-bare_printable b h = grind (arith, nat_tests)
+bare_byte : (b : ℕ) → is_bare b ≡ true → is_plain b ≡ true
+bare_byte b h = (and_parts (is_plain b) _ h).0
 
 printable_small : (b : ℕ) → is_printable b ≡ true → b < 128
 printable_small b h = let high = leb-true b 126 (and_parts (nat_le 32 b) (nat_le b 126) h).1 in omega arith
@@ -68,89 +69,98 @@ printable_utf8 text h = IsUtf8-from_ascii text (printable_ascii text h)
 pub append_printable : (a b : List ℕ) → are_printable a ≡ true → are_printable b ≡ true → are_printable (a ++ b) ≡ true
 append_printable a b first second = list_all-append is_printable a b ∙ and_from _ _ first second
 
-bare_text_printable : (w : List ℕ) → is_bare_text w ≡ true → are_printable w ≡ true
-bare_text_printable w bare = all_weaker is_bare is_printable w bare_printable (all_bare w bare)
+pub append_plain : (a b : List ℕ) → are_plain a ≡ true → are_plain b ≡ true → are_plain (a ++ b) ≡ true
+append_plain a b first second = list_all-append is_plain a b ∙ and_from _ _ first second
 
-pub of_decimal : (n : ℕ) → n < 2 ^ 64 → are_printable (decimal n) ≡ true
-of_decimal n small = bare_text_printable (decimal n) (decimal_bare n small)
+pub plain_printable : (text : List ℕ) → are_plain text ≡ true → are_printable text ≡ true
+plain_printable text plain = all_weaker is_plain is_printable text plain_byte plain
 
-pub of_caps : (s : CapState) → are_printable (caps_text s) ≡ true
-of_caps s = all_weaker is_plain is_printable (caps_text s) plain_printable (caps_text_plain s)
+pub plain_utf8 : (text : List ℕ) → are_plain text ≡ true → IsUtf8 text
+plain_utf8 text plain = printable_utf8 text (plain_printable text plain)
 
-pub of_place : (x : Place) → PlaceInRange x → are_printable (place_text x) ≡ true
+bare_text_plain : (w : List ℕ) → is_bare_text w ≡ true → are_plain w ≡ true
+bare_text_plain w bare = all_weaker is_bare is_plain w bare_byte (all_bare w bare)
+
+pub of_decimal : (n : ℕ) → n < 2 ^ 64 → are_plain (decimal n) ≡ true
+of_decimal n small = bare_text_plain (decimal n) (decimal_bare n small)
+
+pub of_caps : (s : CapState) → are_plain (caps_text s) ≡ true
+of_caps s = caps_text_plain s
+
+pub of_place : (x : Place) → PlaceInRange x → are_plain (place_text x) ≡ true
 of_place (place.First n) small = of_decimal n (omega arith)
 of_place (place.Second n) small = of_decimal n (omega arith)
 of_place _ small = refl
 
 -- ---- words
 
-pub of_event : (e : Event) → are_printable (event_word e) ≡ true
+pub of_event : (e : Event) → are_plain (event_word e) ≡ true
 of_event event.Boot = refl
 of_event _ = refl
 
-pub of_cap : (c : Cap) → are_printable (cap_name c) ≡ true
+pub of_cap : (c : Cap) → are_plain (cap_name c) ≡ true
 of_cap cap.Chown = refl
 of_cap _ = refl
 
-pub of_check : (c : CheckName) → are_printable (check_word c) ≡ true
+pub of_check : (c : CheckName) → are_plain (check_word c) ≡ true
 of_check check.MacRead = refl
 of_check _ = refl
 
-pub of_errno : (e : Errno) → are_printable (errno_word e) ≡ true
+pub of_errno : (e : Errno) → are_plain (errno_word e) ≡ true
 of_errno errno.EACCES = refl
 of_errno _ = refl
 
-pub of_call : (c : CallName) → are_printable (word_of c) ≡ true
+pub of_call : (c : CallName) → are_plain (word_of c) ≡ true
 of_call name.OpenPath = refl
 of_call _ = refl
 
-pub of_kind : (e : Ending) → are_printable (ending_kind e) ≡ true
+pub of_kind : (e : Ending) → are_plain (ending_kind e) ≡ true
 of_kind (ending.Exit code) = refl
 of_kind ending.Term = refl
 of_kind ending.Kill = refl
 
-pub of_switch : (on : Bool) → are_printable (switch_word on) ≡ true
+pub of_switch : (on : Bool) → are_plain (switch_word on) ≡ true
 of_switch true = refl
 of_switch false = refl
 
 -- ---- labels
 
-name_printable : (n : List ℕ) → is_label_name n ≡ true → are_printable n ≡ true
-name_printable n h = bare_text_printable n (label_name_bare n h)
+name_plain : (n : List ℕ) → is_label_name n ≡ true → are_plain n ≡ true
+name_plain n h = bare_text_plain n (label_name_bare n h)
 
-name_at_printable : (names : Names) (i : ℕ) → list_all is_label_name names ≡ true → are_printable (get_or names i []) ≡ true
-name_at_printable [] i h = refl
-name_at_printable (n ∷ ns) zero h = name_printable n (and_parts (is_label_name n) (list_all is_label_name ns) h).0
-name_at_printable (n ∷ ns) (suc i) h = name_at_printable ns i (and_parts (is_label_name n) (list_all is_label_name ns) h).1
+name_at_plain : (names : Names) (i : ℕ) → list_all is_label_name names ≡ true → are_plain (get_or names i []) ≡ true
+name_at_plain [] i h = refl
+name_at_plain (n ∷ ns) zero h = name_plain n (and_parts (is_label_name n) (list_all is_label_name ns) h).0
+name_at_plain (n ∷ ns) (suc i) h = name_at_plain ns i (and_parts (is_label_name n) (list_all is_label_name ns) h).1
 
-cats_printable : (label : Label) (mark i : ℕ) (names : Names) → is_printable mark ≡ true → list_all is_label_name names ≡ true → are_printable (past_mark mark (names_in label.first.second i names)) ≡ true
-cats_printable label mark i [] marked h = refl
-cats_printable label mark i (n ∷ ns) marked h =
+cats_plain : (label : Label) (mark i : ℕ) (names : Names) → is_plain mark ≡ true → list_all is_label_name names ≡ true → are_plain (past_mark mark (names_in label.first.second i names)) ≡ true
+cats_plain label mark i [] marked h = refl
+cats_plain label mark i (n ∷ ns) marked h =
     let parts = and_parts (is_label_name n) (list_all is_label_name ns) h in
-    cond_both _ (n ∷ names_in label.first.second (i + 1) ns) (names_in label.first.second (i + 1) ns) (λ written. are_printable (past_mark mark written) ≡ true)
-    (λ _. and_from (is_printable mark) _ marked (append_printable n _ (name_printable n parts.0) (cats_printable label 44 (i + 1) ns refl parts.1)))
-    (λ _. cats_printable label mark (i + 1) ns marked parts.1)
+    cond_both _ (n ∷ names_in label.first.second (i + 1) ns) (names_in label.first.second (i + 1) ns) (λ written. are_plain (past_mark mark written) ≡ true)
+    (λ _. and_from (is_plain mark) _ marked (append_plain n _ (name_plain n parts.0) (cats_plain label 44 (i + 1) ns refl parts.1)))
+    (λ _. cats_plain label mark (i + 1) ns marked parts.1)
 
-grade_printable : (names : Names) (label : Label) → list_all is_label_name names ≡ true → are_printable (past_slash (written_grade names label.second.inner)) ≡ true
-grade_printable names label h =
+grade_plain : (names : Names) (label : Label) → list_all is_label_name names ≡ true → are_plain (past_slash (written_grade names label.second.inner)) ≡ true
+grade_plain names label h =
     let number = label.second.inner.number in let at = number + length names in
-    cond_both (number == 15) None (Some (grade_name names label.second.inner)) (λ written. are_printable (past_slash written) ≡ true)
+    cond_both (number == 15) None (Some (grade_name names label.second.inner)) (λ written. are_plain (past_slash written) ≡ true)
     (λ _. refl)
-    (λ _. cond_both (nat_lt at 16) [] _ (λ written. are_printable (47 ∷ written) ≡ true) (λ _. refl) (λ _. name_at_printable names _ h))
+    (λ _. cond_both (nat_lt at 16) [] _ (λ written. are_plain (47 ∷ written) ≡ true) (λ _. refl) (λ _. name_at_plain names _ h))
 
--- the text of a label is printable, also where the label is not valid
-pub of_label : (p : PolicyNames) (label : Label) → MakePolicy p → are_printable (label_text p label) ≡ true
+-- the text of a label is plain, also where the label is not valid
+pub of_label : (p : PolicyNames) (label : Label) → MakePolicy p → are_plain (label_text p label) ≡ true
 unfolding label_text
 of_label p label h =
     let named = λ (list : NameList). (policy_facts p h list).named in
-    append_printable (get_or p.levels label.first.first [] ++ past_mark 58 (names_in label.first.second 0 p.cats)) _
-    (append_printable (get_or p.levels label.first.first []) _ (name_at_printable p.levels label.first.first (named Levels)) (cats_printable label 58 0 p.cats refl (named Categories)))
-    (grade_printable p.grades label (named Grades))
+    append_plain (get_or p.levels label.first.first [] ++ past_mark 58 (names_in label.first.second 0 p.cats)) _
+    (append_plain (get_or p.levels label.first.first []) _ (name_at_plain p.levels label.first.first (named Levels)) (cats_plain label 58 0 p.cats refl (named Categories)))
+    (grade_plain p.grades label (named Grades))
 
-pub of_numbered : (p : PolicyNames) (n : ℕ) (label : Label) → MakePolicy p → n < 2 ^ 16 → are_printable (numbered_text p n label) ≡ true
+pub of_numbered : (p : PolicyNames) (n : ℕ) (label : Label) → MakePolicy p → n < 2 ^ 16 → are_plain (numbered_text p n label) ≡ true
 unfolding numbered_text
 of_numbered p n label h small =
-    append_printable (decimal n) (64 ∷ label_text p label) (of_decimal n (omega arith)) (and_from (is_printable 64) _ refl (of_label p label h))
+    append_plain (decimal n) (64 ∷ label_text p label) (of_decimal n (omega arith)) (and_from (is_plain 64) _ refl (of_label p label h))
 
 -- ---- notes
 
@@ -168,7 +178,7 @@ item_printable b small =
     cond_both (b == 34 || b == 92) (92 ∷ b ∷ []) (cond (is_plain b) (b ∷ []) (92 ∷ 120 ∷ hex_digit (b / 16) ∷ hex_digit (b % 16) ∷ [])) (λ t. are_printable t ≡ true)
     (λ mark. and_from (is_printable b) true (marked_printable b mark) refl)
     (λ _. cond_both (is_plain b) (b ∷ []) (92 ∷ 120 ∷ hex_digit (b / 16) ∷ hex_digit (b % 16) ∷ []) (λ t. are_printable t ≡ true)
-    (λ plain. and_from (is_printable b) true (plain_printable b plain) refl)
+    (λ plain. and_from (is_printable b) true (plain_byte b plain) refl)
     (λ _. and_from _ _ (digit_printable (b / 16) (omega arith)) (and_from _ _ (digit_printable (b % 16) (omega arith)) refl)))
 
 pub of_items : (bytes : List ℕ) → are_bytes bytes ≡ true → are_printable (flat_map item_text bytes) ≡ true

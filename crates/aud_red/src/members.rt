@@ -1,10 +1,10 @@
-// The JSON text of a record.
-ghost use Rattle.std.specs.Prelude.{◌≡◌, true, Some, IfOk, OnOk};
-ghost use Rattle.serde_json.specs.Read.{read};
+// The members of a record as a value of `serde_json`.
+ghost use Rattle.std.specs.Prelude.{◌≡◌, IfOk, OnOk};
 ghost use Rattle.serde_json.specs.View.{members_view, view};
 ghost use Rattle.aud_record.specs.Written.{switch_word};
-ghost use Rattle.aud_red.specs.Json.{ending_kind, label_members, exec_members, denial_members, exercise_members, rest_members};
-ghost use Rattle.aud_red.specs.Json.{in_key_order, rec_members, are_printable, json_line};
+ghost use Rattle.aud_red.specs.Json.{ending_kind, label_members, relabel_members, file_members, ending_members};
+ghost use Rattle.aud_red.specs.Json.{exec_members, denial_members, exercise_members, rest_members};
+ghost use Rattle.aud_red.specs.Json.{in_key_order, rec_members};
 ghost use Rattle.aud_red.specs.JsonValue.{members_of, json_of};
 ghost use Rattle.aud_red.specs.Objects.{with_members};
 
@@ -18,7 +18,8 @@ use lab_text::Policy;
 use serde_json::Value;
 use std::alloc::Global;
 
-fn ending_kind(ending: Ending) -> &'static [u8]
+/// The word for how a process ended.
+pub fn ending_kind(ending: Ending) -> &'static [u8]
     ensures { result.now ≡ ending_kind ending }
 {
     match ending {
@@ -27,7 +28,8 @@ fn ending_kind(ending: Ending) -> &'static [u8]
     }
 }
 
-fn switch_word(on: bool) -> &'static [u8]
+/// The word for an audit switch.
+pub fn switch_word(on: bool) -> &'static [u8]
     ensures { result.now ≡ switch_word on }
 {
     if on { b"on" } else { b"off" }
@@ -45,6 +47,44 @@ fn put_labels(
 {
     json.label("old", policy, old)?;
     json.label("new", policy, new)
+}
+
+// Puts an object, and its labels before and after a change.
+fn put_relabel(
+    json: &mut ObjectWriter,
+    policy: &Policy,
+    object: &Oid,
+    old: &Label,
+    new: &Label,
+) -> Result<(), NoMemory>
+    ensures { OnOk result (members_view json.new
+        ≡ with_members (members_view json.old) (relabel_members policy.now object.now old.now new.now)) }
+{
+    json.numbered("object", policy, object.n, &object.label)?;
+    put_labels(json, policy, old, new)
+}
+
+// Puts a file, and its capability sets after a change.
+fn put_file(
+    json: &mut ObjectWriter,
+    policy: &Policy,
+    file: &Oid,
+    caps: &CapState,
+) -> Result<(), NoMemory>
+    ensures { OnOk result (members_view json.new
+        ≡ with_members (members_view json.old) (file_members policy.now file.now caps.now)) }
+{
+    json.numbered("object", policy, file.n, &file.label)?;
+    json.caps("caps", caps)
+}
+
+// Puts how a process ended.
+#[tactic(auto, using(crate::proofs::Printable::of_kind))]
+fn put_ending(json: &mut ObjectWriter, ending: Ending) -> Result<(), NoMemory>
+    ensures { OnOk result (members_view json.new ≡ with_members (members_view json.old) (ending_members ending)) }
+{
+    json.word("kind", ending_kind(ending))?;
+    json.ending_value("value", ending)
 }
 
 // Puts the file that a process executes, the capability sets of the file, and those of the process after it.
@@ -101,7 +141,7 @@ fn put_exercise(
 }
 
 // Puts what a kind of records says besides its process.
-#[tactic(auto, using(crate::proofs::Printable::of_kind, crate::proofs::Printable::of_switch))]
+#[tactic(auto, using(crate::proofs::Printable::of_switch))]
 fn put_rest(json: &mut ObjectWriter, policy: &Policy, rec: &Rec) -> Result<(), NoMemory>
     ensures { OnOk result (members_view json.new ≡ with_members (members_view json.old) (rest_members policy.now rec.now)) }
 {
@@ -117,25 +157,16 @@ fn put_rest(json: &mut ObjectWriter, policy: &Policy, rec: &Rec) -> Result<(), N
             caps,
             ..
         } => put_exec(json, policy, file, file_caps, caps),
-        Rec::Exit { ending, .. } => {
-            json.word("kind", ending_kind(*ending))?;
-            json.ending_value("value", *ending)
-        }
+        Rec::Exit { ending, .. } => put_ending(json, *ending),
         Rec::CapSetProc { caps, .. } => json.caps("caps", caps),
-        Rec::CapSetFile { file, caps, .. } => {
-            json.numbered("object", policy, file.n, &file.label)?;
-            json.caps("caps", caps)
-        }
+        Rec::CapSetFile { file, caps, .. } => put_file(json, policy, file, caps),
         Rec::MacSetProc { old, new, .. } => put_labels(json, policy, old, new),
         Rec::MacSetFile {
             object,
             old,
             new,
             ..
-        } => {
-            json.numbered("object", policy, object.n, &object.label)?;
-            put_labels(json, policy, old, new)
-        }
+        } => put_relabel(json, policy, object, old, new),
         Rec::Exercise(exercise) => put_exercise(json, policy, exercise),
         Rec::Deny {
             call,
@@ -169,15 +200,4 @@ pub fn rec_json(alloc: Global, policy: &Policy, rec: &ReadRec) -> Result<Value, 
     ensures { IfOk result (λ value. view value ≡ json_of policy.now rec.now) }
 {
     Ok(object_of(alloc, policy, rec)?.into_value())
-}
-
-/// The JSON text of a record, on one line and without a line feed.
-pub fn json_text(alloc: Global, policy: &Policy, rec: &ReadRec) -> Result<Vec<u8>, NoMemory>
-    ensures text { IfOk result (λ text. text.items ≡ json_line policy.now rec.now) }
-    // It has no line feed, and no byte that is not ASCII.
-    ensures printable { IfOk result (λ text. are_printable text.items ≡ true) }
-    // It is JSON, and says the record.
-    ensures reads_back { IfOk result (λ text. read text.items ≡ Some (json_of policy.now rec.now)) }
-{
-    object_of(alloc, policy, rec)?.into_value().to_vec(alloc)
 }

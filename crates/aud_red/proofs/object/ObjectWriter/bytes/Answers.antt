@@ -5,7 +5,7 @@ use Rattle.fs_path.proofs.ValueRanges.{bytes_from}
 use Rattle.serde_json.specs.Data.{string, put}
 use Rattle.serde_json.specs.View.{members_view}
 use Rattle.aud_red.specs.Json.{are_printable}
-use Rattle.aud_red.proofs.Printable.{of_items}
+use Rattle.aud_red.proofs.Printable.{of_items, printable_utf8}
 use Rattle.aud_red.proofs.Unquoted.{quoted_long, unquoted_items}
 use Rattle.aud_red.proofs.object.ObjectWriter.bytes.Goals as goal
 
@@ -15,12 +15,12 @@ returns-in_default c =
     let long = quoted_long c.as_slice.result.now c.args.bytes.now is in
     absurd (omega (arith, long, c.in_default.len_below))
 
-pub word-requires-clause-word : goal.word-requires-clause-word
-word-requires-clause-word c =
+pub string-requires : goal.string-requires
+string-requires c =
     let is = c.as_slice.ensures.value ∙ c.in_ok-put_quoted.ensures.text ∙ ap (λ (t : List ℕ). t ++ quoted_text c.args.bytes.now) c.in_ok-text.ensures in
-    ap are_printable (unquoted_items c.as_slice.result.now c.args.bytes.now is) ∙ of_items c.args.bytes.now (bytes_from c.args.bytes.now (λ i. omega (arith, c.type_inv.bytes i)))
+    printable_utf8 _ (ap are_printable (c.in_ok-text-2.ensures.items ∙ unquoted_items c.as_slice.result.now c.args.bytes.now is) ∙ of_items c.args.bytes.now (bytes_from c.args.bytes.now (λ i. omega (arith, c.type_inv.bytes i))))
 
 pub returns : goal.returns
 returns c =
     let is = c.as_slice.ensures.value ∙ c.in_ok-put_quoted.ensures.text ∙ ap (λ (t : List ℕ). t ++ quoted_text c.args.bytes.now) c.in_ok-text.ensures in
-    subst (λ (t : List ℕ). OnOk c.word.result (members_view c.word.new.self ≡ put c.args.key.now (string t) (members_view c.args.self.now))) (unquoted_items c.as_slice.result.now c.args.bytes.now is) c.word.ensures
+    subst (λ (t : List ℕ). OnOk c.string.result (members_view c.string.new.self ≡ put c.args.key.now (string t) (members_view c.args.self.now))) (c.in_ok-text-2.ensures.items ∙ unquoted_items c.as_slice.result.now c.args.bytes.now is) c.string.ensures
