@@ -10,7 +10,7 @@ use Rattle.lab_text.specs.Policy.{PolicyNames}
 use Rattle.aud_record.specs.declared.reading.ReadRec.{ReadRec}
 use Rattle.aud_red.specs.Json.{Null, Number, Text, Member, escaped_byte, json_string, value_text, member_text, object_text, is_printable, are_printable}
 use Rattle.aud_red.specs.ObjectText.{are_plain, comma_after, with_key, with_text, with_texts, before_call, before_event, before_pid, after_pid, call_member, event_member, pid_member, ordered_members}
-use Rattle.aud_red.proofs.Printable.{append_printable, append_plain}
+use Rattle.aud_red.proofs.Printable.{append_printable, append_plain, plain_printable, of_decimal, of_label, of_numbered, of_caps, of_place}
 
 -- ---- one more member
 
@@ -23,6 +23,10 @@ plain_escaped [] h = refl
 plain_escaped (b ∷ bs) h =
     let parts = and_parts (is_plain b) (are_plain bs) h in
     ap (λ (t : List ℕ). t ++ flat_map escaped_byte bs) (cond-false (b == 34 || b == 92) _ _ (not_marked b parts.0)) ∙ ap (λ (t : List ℕ). b ∷ t) (plain_escaped bs parts.1)
+
+-- a printable text stays so with plain bytes after it
+pub plain_appended : (text value : List ℕ) → are_printable text ≡ true → are_plain value ≡ true → are_printable (text ++ value) ≡ true
+plain_appended text value printable plain = append_printable text value printable (plain_printable value plain)
 
 key_then : (old key value : List ℕ) → with_key old key ++ value ≡ old ++ (comma_after old ++ (json_string key ++ 58 ∷ value))
 unfolding with_key
@@ -131,3 +135,9 @@ in_turn text p read =
     texts_append text (before_call read.rec) _
     ∙ texts_append first (before_event p read.rec) _
     ∙ texts_append second (before_pid p read.rec) _
+
+-- ---- for the attributes of functions
+
+pub ruleset members = (append_printable, plain_appended, key_put, number_put, null_put, plain_put, marked_put, of_decimal, of_label, of_numbered, of_caps, of_place)
+
+pub ruleset items = (marked_item, plain_item, other_item)

@@ -63,7 +63,7 @@ fn hex_digit(value: u8) -> u8
 }
 
 // Writes what stands in a string for the text of a byte of a note, whose backslashes are escaped.
-#[tactic(auto, using(crate::proofs::ObjectTextLemmas::marked_item, crate::proofs::ObjectTextLemmas::plain_item, crate::proofs::ObjectTextLemmas::other_item))]
+#[tactic(auto, using(crate::proofs::ObjectTextLemmas::items))]
 fn put_item(text: &mut Vec<u8>, byte: u8) -> Result<(), NoMemory>
     ensures { OnOk result (text.new.items ≡ text.old.items ++ flat_map escaped_byte (item_text byte)) }
 {
@@ -93,6 +93,7 @@ fn put_items(text: &mut Vec<u8>, bytes: &[u8]) -> Result<(), NoMemory>
     Ok(())
 }
 
+#[tactic(auto, using(crate::proofs::ObjectTextLemmas::members))]
 impl ObjectText {
     /// An object with no members yet.
     pub fn new(alloc: Global) -> Result<ObjectText, NoMemory>
@@ -104,7 +105,6 @@ impl ObjectText {
     }
 
     // The text with a comma where a member stands before.
-    #[tactic(auto, using(crate::proofs::Printable::append_printable))]
     fn with_comma(self) -> Result<Vec<u8>, NoMemory>
         ensures text { IfOk result (λ text. text.items ≡ self ++ comma_after self) }
         ensures printable { IfOk result (λ text. are_printable text.items ≡ true) }
@@ -117,7 +117,6 @@ impl ObjectText {
     }
 
     // The text with a key and its colon.
-    #[tactic(auto, using(crate::proofs::Printable::append_printable, crate::proofs::Printable::plain_printable, crate::proofs::ObjectTextLemmas::key_put))]
     fn with_key(self, key: &str) -> Result<Vec<u8>, NoMemory>
         requires { are_plain key.now ≡ true }
         ensures text { IfOk result (λ text. text.items ≡ with_key self key.now) }
@@ -131,7 +130,6 @@ impl ObjectText {
     }
 
     // The text with a key and the quote that begins a value.
-    #[tactic(auto, using(crate::proofs::Printable::append_printable))]
     fn opened(self, key: &str) -> Result<Vec<u8>, NoMemory>
         requires { are_plain key.now ≡ true }
         ensures text { IfOk result (λ text. text.items ≡ with_key self key.now ++ 34 ∷ []) }
@@ -143,7 +141,6 @@ impl ObjectText {
     }
 
     /// With a number.
-    #[tactic(auto, using(crate::proofs::Printable::append_printable, crate::proofs::Printable::plain_printable, crate::proofs::Printable::of_decimal, crate::proofs::ObjectTextLemmas::number_put))]
     pub fn number(self, key: &str, n: u64) -> Result<ObjectText, NoMemory>
         requires { are_plain key.now ≡ true }
         ensures text { IfOk result (λ json. json ≡ with_text self (key.now, Number n)) }
@@ -155,7 +152,6 @@ impl ObjectText {
     }
 
     /// With a word.
-    #[tactic(auto, using(crate::proofs::Printable::append_printable, crate::proofs::Printable::plain_printable, crate::proofs::ObjectTextLemmas::plain_put))]
     pub fn word(self, key: &str, word: &[u8]) -> Result<ObjectText, NoMemory>
         requires key { are_plain key.now ≡ true }
         requires word { are_plain word.now ≡ true }
@@ -167,7 +163,6 @@ impl ObjectText {
     }
 
     /// With a label.
-    #[tactic(auto, using(crate::proofs::Printable::append_printable, crate::proofs::Printable::plain_printable, crate::proofs::ObjectTextLemmas::plain_put, crate::proofs::Printable::of_label))]
     pub fn label(self, key: &str, policy: &Policy, label: &Label) -> Result<ObjectText, NoMemory>
         requires { are_plain key.now ≡ true }
         ensures { IfOk result (λ json. json ≡ with_text self (key.now, Text (label_text policy.now label.now))) }
@@ -180,7 +175,6 @@ impl ObjectText {
     }
 
     /// With the new label of a check, null where it has none.
-    #[tactic(auto, using(crate::proofs::Printable::append_printable, crate::proofs::ObjectTextLemmas::null_put))]
     pub fn new_label(
         self,
         key: &str,
@@ -199,7 +193,6 @@ impl ObjectText {
     }
 
     // With a mark and a number, which was drawn at a label.
-    #[tactic(auto, using(crate::proofs::Printable::append_printable, crate::proofs::Printable::plain_printable, crate::proofs::Printable::append_plain, crate::proofs::Printable::of_numbered, crate::proofs::ObjectTextLemmas::marked_put))]
     fn marked_number(
         self,
         key: &str,
@@ -245,7 +238,6 @@ impl ObjectText {
     }
 
     /// With a capability state.
-    #[tactic(auto, using(crate::proofs::Printable::append_printable, crate::proofs::Printable::plain_printable, crate::proofs::ObjectTextLemmas::plain_put, crate::proofs::Printable::of_caps))]
     pub fn caps(self, key: &str, caps: &CapState) -> Result<ObjectText, NoMemory>
         requires { are_plain key.now ≡ true }
         ensures { IfOk result (λ json. json ≡ with_text self (key.now, Text (caps_text caps.now))) }
@@ -256,7 +248,6 @@ impl ObjectText {
     }
 
     /// With the place of a check.
-    #[tactic(auto, using(crate::proofs::Printable::append_printable, crate::proofs::Printable::plain_printable, crate::proofs::ObjectTextLemmas::plain_put, crate::proofs::Printable::of_place))]
     pub fn place(self, key: &str, place: Place) -> Result<ObjectText, NoMemory>
         requires { are_plain key.now ≡ true }
         ensures { IfOk result (λ json. json ≡ with_text self (key.now, Text (place_text place))) }
@@ -267,7 +258,6 @@ impl ObjectText {
     }
 
     /// With the exit status of a process or the name of a signal.
-    #[tactic(auto, using(crate::proofs::Printable::append_printable, crate::proofs::Printable::plain_printable, crate::proofs::ObjectTextLemmas::plain_put, crate::proofs::Printable::of_decimal))]
     pub fn ending_value(self, key: &str, ending: Ending) -> Result<ObjectText, NoMemory>
         requires { are_plain key.now ≡ true }
         ensures { IfOk result (λ json. json ≡ with_text self (key.now, Text (ending_value ending))) }
@@ -295,7 +285,6 @@ impl ObjectText {
     }
 
     /// The text of the object, with the brace that closes it.
-    #[tactic(auto, using(crate::proofs::Printable::append_printable))]
     pub fn into_text(self) -> Result<Vec<u8>, NoMemory>
         ensures text { IfOk result (λ text. text.items ≡ self ++ 125 ∷ []) }
         ensures printable { IfOk result (λ text. are_printable text.items ≡ true) }
