@@ -18,7 +18,7 @@ use Rattle.kern_model.specs.Table.{row}
 use Rattle.kern_model.specs.Valid.{IsValid}
 use Rattle.kern_model.specs.World.{IsWorldProc}
 use Rattle.iso_laws.specs.Labels.{HasLabelsBelow}
-use Rattle.iso_laws.specs.Laws.{LabelsBelow}
+use Rattle.iso_laws.specs.Laws.{LabelsBelow, RecordsBelow}
 use Rattle.iso_laws.proofs.AllLemmas.{all-append}
 use Rattle.iso_laws.proofs.Along.{NothingKnown, along_below}
 use Rattle.iso_laws.proofs.BelowRows.{RowBelow, AllBelow, process_below, row_leaves}
@@ -39,8 +39,8 @@ row_below s valid who p is c args =
     (row_kinds NothingKnown NothingKnown (PremiseHolds s c) s who p is c (λ x h. h))
 
 -- the records of a step
-step_below : (s : State) (who : Pid) (c : Call) → is_call s.top c ≡ true → IsValid s → AllBelow s.top (step s who c).recs
-step_below s who c args valid = step_cases s who c (λ o. AllBelow s.top o.recs)
+pub records_below : RecordsBelow
+records_below s who c args valid = step_cases s who c (λ o. AllBelow s.top o.recs)
     (λ _. tt)
     (λ p is.
     row_leaves s.top who p (process_below s valid who p is) (valid.procs who p is).below s (name_of c) (row s who p c) (row_below s valid who p is c args))
@@ -52,7 +52,7 @@ run_below [] s args valid = tt
 run_below (i ∷ is) s args valid =
     let first = first_of_script s i is args in
     let next : State = (step s i.who i.call).state in
-    all-append (HasLabelsBelow s.top) (step s i.who i.call).recs _ (step_below s i.who i.call first.args valid)
+    all-append (HasLabelsBelow s.top) (step s i.who i.call).recs _ (records_below s i.who i.call first.args valid)
     (subst (λ (top : Label). AllBelow top (flat_map (λ (p : CallRecord). p.recs) (run next is))) (top_step s i.who i.call)
     (run_below is next first.later_args (valid_step s i.who i.call first.args first.names valid)))
 

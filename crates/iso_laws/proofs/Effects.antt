@@ -224,7 +224,7 @@ module _ {Given : Premise → Type 0} {s : State} {who : Pid} {p : Process} (nam
   of_caller = OfCaller name holds None (λ l none. cc)
 
 -- permission bits are a mode
-small_is_mode : (m : ℕ) → m ≤ MAX_PERMISSIONS → is_mode m ≡ true
+pub small_is_mode : (m : ℕ) → m ≤ MAX_PERMISSIONS → is_mode m ≡ true
 small_is_mode m small =
     let none : m / STICKY ≡ 0 = omega (arith, small) in
     and_from (nat_le m MAX_MODE) ((m / STICKY) % 2 == 0) (le-leb m MAX_MODE (omega (arith, small))) (ap (λ n. n % 2 == 0) none)

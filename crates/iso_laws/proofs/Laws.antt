@@ -3,7 +3,8 @@ pub use Rattle.iso_laws.proofs.Steps.{low_step_reply, low_step_records, low_step
 pub use Rattle.iso_laws.proofs.Booting.{kept_boot, top_boot}
 pub use Rattle.iso_laws.proofs.ValidBoot.{valid_boot}
 pub use Rattle.iso_laws.proofs.Worlds.{isolated_prefix, isolated_whole, isolated_end, isolated_inside, two_worlds_agree, two_worlds_same}
-pub use Rattle.iso_laws.proofs.Below.{labels_below}
+pub use Rattle.iso_laws.proofs.Below.{labels_below, records_below}
+pub use Rattle.iso_laws.proofs.ReplyRows.{caller_below, call_below, reply_below}
 pub use Rattle.iso_laws.proofs.Lineage.{caps_by_records}
 pub use Rattle.iso_laws.proofs.Drops.{drops_by_records}
 pub use Rattle.iso_laws.proofs.Growth.{growth_by_records}

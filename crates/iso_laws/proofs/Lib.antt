@@ -37,6 +37,7 @@ pub mod ValidBoot
 pub mod Booting
 pub mod Worlds
 pub mod Below
+pub mod ReplyRows
 pub mod Lineage
 pub mod Drops
 pub mod GoingOn

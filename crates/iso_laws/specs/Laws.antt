@@ -2,7 +2,7 @@
 use Rattle.std.specs.Prelude.{◌≡◌, ℕ, Bool, true, false, List, ◌++◌, Some, take}
 use Rattle.std.specs.List.{AllByRecursion, list_any}
 use Rattle.std.specs.FinMap as map
-use Rattle.lab_lattice.specs.Label.{Label}
+use Rattle.lab_lattice.specs.Label.{Label, dominates}
 use Rattle.kern_model.specs.declared.numbers.Pid.{Pid}
 use Rattle.kern_model.specs.declared.calls.Call.{Call}
 use Rattle.kern_model.specs.declared.records.Rec.{Rec}
@@ -23,7 +23,7 @@ use Rattle.kern_model.specs.Step.{step}
 use Rattle.kern_model.specs.Valid.{IsValid}
 use Rattle.kern_model.specs.World.{IsWorld}
 use Rattle.iso_laws.specs.Follows.{AllFollow}
-use Rattle.iso_laws.specs.Labels.{HasLabelsBelow}
+use Rattle.iso_laws.specs.Labels.{AreBelow, HasAnswerBelow, HasLabelsBelow, labels_in_call}
 use Rattle.iso_laws.specs.Unnamed.{NeedsOnlyNamed}
 
 -- ---- a step, by a call whose arguments are in their ranges
@@ -105,11 +105,27 @@ TwoWorldsSame = (l : Label) (w v : World) (is js : List ScriptItem) → IsWorld 
     → part l (boot w) ≡ part l (boot v) → part_script l is ≡ part_script l js
     → up_to l (run (boot w) is) ≡ run (boot w) is → up_to l (run (boot v) js) ≡ run (boot v) js → answers l (run (boot w) is) ≡ answers l (run (boot v) js)
 
--- ---- labels of records
+-- ---- labels of calls, replies and records
 
 -- each label in a record of a run is below the highest one
 abbrev pub LabelsBelow : Type 0
 LabelsBelow = (w : World) (items : List ScriptItem) → IsWorld w → is_script w.top items ≡ true → AllByRecursion (HasLabelsBelow w.top) (all_recs w items)
+
+-- so is that of the number of each living process of a valid state
+abbrev pub CallerBelow : Type 0
+CallerBelow = (s : State) (who : Pid) (p : Process) → IsValid s → map.get s.procs who ≡ Some p → dominates s.top who.label ≡ true
+
+-- and each label in a call whose arguments are in their ranges
+abbrev pub CallBelow : Type 0
+CallBelow = (top : Label) (c : Call) → is_call top c ≡ true → AreBelow top (labels_in_call c)
+
+-- and each label in the reply of a step of a valid state, whose modes are modes; for every call
+abbrev pub ReplyBelow : Type 0
+ReplyBelow = (s : State) (who : Pid) (c : Call) → IsValid s → HasAnswerBelow s.top (step s who c).reply
+
+-- and each label in the records of such a step, by a call whose arguments are in their ranges
+abbrev pub RecordsBelow : Type 0
+RecordsBelow = (s : State) (who : Pid) (c : Call) → is_call s.top c ≡ true → IsValid s → AllByRecursion (HasLabelsBelow s.top) (step s who c).recs
 
 -- ---- capability sets, for every call
 

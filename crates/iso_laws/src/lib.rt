@@ -6,7 +6,7 @@
 
 ghost use Rattle.iso_laws.specs.Laws.{LowStepReply, LowStepRecords, LowStepState, OtherStep, KeptStep, ValidStep};
 ghost use Rattle.iso_laws.specs.Laws.{KeptBoot, ValidBoot, IsolatedPrefix, IsolatedWhole, IsolatedEnd, IsolatedInside, TwoWorldsAgree, TwoWorldsSame};
-ghost use Rattle.iso_laws.specs.Laws.{LabelsBelow};
+ghost use Rattle.iso_laws.specs.Laws.{LabelsBelow, CallerBelow, CallBelow, ReplyBelow, RecordsBelow};
 ghost use Rattle.iso_laws.specs.Laws.{CapsByRecords, CapsStay, DropsByRecords, GrowthByRecords, OwnTrail};
 ghost use Rattle.iso_laws.specs.Laws.{RefusalsAreNamed, DrawnStep, NumbersStep, NumbersRun, GoneRun};
 ghost use Rattle.iso_laws.specs.Laws.{TopBoot, TopStep, UnnamedCapability};
@@ -64,6 +64,15 @@ pub fn two_worlds()
 /// Each label in a record of a run is below the highest label of its world, and so are those of the numbers in it.
 pub fn labels_below()
     ensures { LabelsBelow }
+{}
+
+/// Each label in a step of a valid state is below its highest label: in the number of a caller that lives, in the call, in
+/// the reply and in the records. The modes in the reply lie within octal 6777.
+pub fn step_below()
+    ensures caller { CallerBelow }
+    ensures call { CallBelow }
+    ensures reply { ReplyBelow }
+    ensures recs { RecordsBelow }
 {}
 
 /// The capability sets of each process that lives at the end of a run are those that the records give. For every call.
