@@ -53,10 +53,11 @@ closed_loop_end l s programs slices rounds is none =
     )
 
 pub loop_of_world : LoopOfWorld
-loop_of_world l w programs is programs_are = record {
+loop_of_world l w programs is programs_are names = record {
   valid = valid_boot w is;
   kept = kept_boot l w;
   programs_are = ap (λ top. are_programs top programs) (top_boot w) ∙ programs_are;
+  names = names;
 }
 
 pub two_loops_agree : TwoLoopsAgree

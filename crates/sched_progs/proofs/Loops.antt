@@ -8,29 +8,31 @@ use Rattle.std.proofs.lemmas.Bool.{and_parts, or_parts, true≢false}
 use Rattle.std.proofs.lemmas.List.Elements.{filter-append}
 use Rattle.lab_lattice.specs.Label.{Label, label_cmp}
 use Rattle.lab_lattice.proofs.Labels.{label_cmp_total, label_cmp_exact}
+use Rattle.kern_model.specs.declared.calls.Call.{Call}
 use Rattle.kern_model.specs.declared.numbers.Pid.{Pid}
+use Rattle.kern_model.specs.Arguments.{has_names, is_call}
 use Rattle.kern_model.specs.Isolation.{low, part}
 use Rattle.kern_model.specs.Keys.{same_pid}
 use Rattle.kern_model.specs.State.{State}
 use Rattle.kern_model.proofs.KeyLaws.{pid_cmp_exact}
 use Rattle.kern_model.proofs.MapLemmas.{same_key}
-use Rattle.sched_progs.specs.Programs.{Programs, Progress, are_programs, first_step, is_step, steps_of}
+use Rattle.sched_progs.specs.Programs.{Programs, Progress, call_passes, calls_pass, first_step, steps_of}
 use Rattle.sched_progs.specs.Turns.{LoopItem, LoopState, TurnResult, turn}
 use Rattle.sched_progs.specs.Loop.{items_of_turns, loop_start, state_after_turns}
 use Rattle.sched_progs.specs.Laws.{IsLoop, before_crossing, item_crosses, low_items, part_programs}
 use Rattle.sched_progs.proofs.NextTurns.{low_turns, part_loop}
 use Rattle.sched_progs.proofs.LowParts.{get-part}
 use Rattle.sched_progs.proofs.Processes.{each_in_part, each_is, living_each}
-use Rattle.sched_progs.proofs.TurnLaws.{IsGoing, TurnsBeside}
+use Rattle.sched_progs.proofs.TurnLaws.{IsGoing, MayRun, TurnsBeside}
 use Rattle.sched_progs.proofs.Turns.{turn_in_part}
 
 -- ---- the start
--- the steps of each program may be played
-steps_are : (top : Label) (programs : Programs) → are_programs top programs ≡ true → (q : Pid) → list_all (is_step top) (steps_of programs q) ≡ true
-steps_are top [] all q = refl
-steps_are top (p ∷ ps) all q =
-    let parts = and_parts (list_all (is_step top) p.1.steps) (are_programs top ps) all in
-    elim (same_pid p.0 q) as (λ b. list_all (is_step top) (cond b p.1.steps (steps_of ps q)) ≡ true) [ true ↦ parts.0 | false ↦ steps_are top ps parts.1 q ]
+-- the calls of each program pass a test that all calls pass
+steps_pass : (test : Call → Bool) (programs : Programs) → calls_pass test programs ≡ true → (q : Pid) → list_all (call_passes test) (steps_of programs q) ≡ true
+steps_pass test [] all q = refl
+steps_pass test (p ∷ ps) all q =
+    let parts = and_parts (list_all (call_passes test) p.1.steps) (calls_pass test ps) all in
+    elim (same_pid p.0 q) as (λ b. list_all (call_passes test) (cond b p.1.steps (steps_of ps q)) ≡ true) [ true ↦ parts.0 | false ↦ steps_pass test ps parts.1 q ]
 
 -- a Low process has the same program in the part
 steps_in_part : (l : Label) (programs : Programs) (q : Pid) → low l q.label ≡ true → steps_of (part_programs l programs) q ≡ steps_of programs q
@@ -64,7 +66,9 @@ module _ (l : Label) (s : State) (programs : Programs) (is : IsLoop l s programs
   going_at_start = record {
     valid = is.valid;
     kept = is.kept;
-    steps = λ q p e. subst (λ (p : Progress). list_all (is_step s.top) p.steps ≡ true) (each_is (λ who. first_step (steps_of programs who)) s.procs q p e) (steps_are s.top programs is.programs_are q);
+    steps = λ q p e.
+        subst (λ (p : Progress). MayRun s.top p.steps) (each_is (λ who. first_step (steps_of programs who)) s.procs q p e)
+        (steps_pass (is_call s.top) programs is.programs_are q, steps_pass has_names programs is.names q);
     living = λ q. living_each (λ who. first_step (steps_of programs who)) s.procs q;
   }
 

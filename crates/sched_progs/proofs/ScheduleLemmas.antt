@@ -5,37 +5,44 @@ use Rattle.std.specs.Option.{option_map, option_or}
 use Rattle.std.specs.FinMap as map
 use Rattle.std.specs.FinMap.{FinMap, get-insert}
 use Rattle.std.proofs.Common.{sym, ◌∙◌, ap, subst}
-use Rattle.std.proofs.lemmas.Bool.{and_parts}
-use Rattle.lab_lattice.specs.Label.{Label, label_cmp}
+use Rattle.std.proofs.lemmas.Bool.{and_parts, true≢false}
+use Rattle.lab_lattice.specs.Label.{Label, dominates, label_cmp}
 use Rattle.kern_model.specs.declared.calls.Call.{Call}
 use Rattle.kern_model.specs.declared.numbers.Pid.{Pid}
 use Rattle.kern_model.specs.Arguments.{has_names, is_call}
 use Rattle.kern_model.specs.Keys.{same_pid}
 use Rattle.kern_model.specs.Maps.{get_or, selected}
-use Rattle.kern_model.specs.State.{State}
+use Rattle.kern_model.specs.State.{State, Process}
 use Rattle.kern_model.specs.Step.{StepResult, step}
+use Rattle.kern_model.specs.Valid.{IsValid}
 use Rattle.kern_model.proofs.KeyLaws.{pid_cmp_total, pid_cmp_exact}
 use Rattle.kern_model.proofs.MapLemmas.{same_key}
 use Rattle.kern_model.proofs.Selections.{entries-select, select-insert_each}
-use Rattle.iso_laws.proofs.Steps.{top_step, valid_step}
+use Rattle.iso_laws.proofs.Laws.{call_below, caller_below, records_below, reply_below, top_step, valid_step}
 use Rattle.script_text.specs.declared.step.ProgStep.{ProgStep}
 use Rattle.sched_progs.specs.declared.standing.Standing.{Standing}
-use Rattle.sched_progs.specs.Programs.{Programs, Progress, are_programs, is_step, max_jumps, move, move_from}
+use Rattle.sched_progs.specs.Programs.{Programs, Progress, are_programs, call_passes, max_jumps, move, move_from}
 use Rattle.sched_progs.specs.Running.{IsRunning, item_of_step, replied, standings_after_call}
 use Rattle.sched_progs.specs.Standings.{Standings, first_standing, loop_state, progress_at, progress_of, steps_at}
 use Rattle.sched_progs.specs.Turns.{LoopState, TurnResult, call_result, is_above, is_of, least, next_in_turn, turn, turn_by, turn_of, turn_of_process}
+use Rattle.sched_progs.specs.Watching.{IsWithin}
 use Rattle.sched_progs.proofs.Followed.{living_then, progress_then}
 use Rattle.sched_progs.proofs.LowParts.{entry_found}
-use Rattle.sched_progs.proofs.Moves.{MayCall, may_move}
+use Rattle.sched_progs.proofs.Moves.{Passes, move_passes}
 
 -- ---- the steps of each program
--- the steps at each place of the table may be played
-steps_may : (programs : Programs) (s : State) → are_programs s.top programs ≡ true → (place : ℕ) → list_all (is_step s.top) (steps_at programs place) ≡ true
+-- the calls of the steps at each place of the table are in their ranges
+steps_may : (programs : Programs) (s : State) → are_programs s.top programs ≡ true → (place : ℕ) → list_all (call_passes (is_call s.top)) (steps_at programs place) ≡ true
 steps_may [] s all place = refl
-steps_may (p ∷ ps) s all zero = (and_parts (list_all (is_step s.top) p.1.steps) (are_programs s.top ps) all).0
-steps_may (p ∷ ps) s all (suc place) = steps_may ps s (and_parts (list_all (is_step s.top) p.1.steps) (are_programs s.top ps) all).1 place
+steps_may (p ∷ ps) s all zero = (and_parts (list_all (call_passes (is_call s.top)) p.1.steps) (are_programs s.top ps) all).0
+steps_may (p ∷ ps) s all (suc place) = steps_may ps s (and_parts (list_all (call_passes (is_call s.top)) p.1.steps) (are_programs s.top ps) all).1 place
 
-module _ (programs : Programs) (s : State) (standings : Standings) (last_turns : FinMap label_cmp ℕ) (running : IsRunning s programs standings)
+-- a number that a process lives at is below the highest label
+living_below : (s : State) → IsValid s → (who : Pid) (o : Option Process) → map.get s.procs who ≡ o → is_some o ≡ true → dominates s.top who.label ≡ true
+living_below s valid who None is lives = absurd (true≢false (sym lives))
+living_below s valid who (Some p) is lives = caller_below s who p valid is
+
+module _ (programs : Programs) (s : State) (standings : Standings) (last_turns : FinMap label_cmp ℕ) (top : Label) (running : IsRunning s programs standings top)
     (who : Pid) (a : Standing) (there : map.get standings who ≡ Some a) where
   abbrev state : LoopState
   state = loop_state s programs standings last_turns
@@ -50,8 +57,19 @@ module _ (programs : Programs) (s : State) (standings : Standings) (last_turns :
   lives = ap is_some there
 
   -- what the program calls may be called
-  pub may_call : (c : Call) → (move p).call ≡ Some c → (is_call s.top c ≡ true) × (has_names c ≡ true)
-  may_call c is = subst (MayCall s.top) is (may_move s.top p (steps_may programs s running.programs_are a.program))
+  pub may_call : (c : Call) → (move p).call ≡ Some c → is_call s.top c ≡ true
+  may_call c is = subst (Passes (is_call s.top)) is (move_passes (is_call s.top) p (steps_may programs s running.programs_are a.program))
+
+  -- and each label in its step is below the watch's
+  pub step_within : (c : Call) → (move p).call ≡ Some c → IsWithin top (item_of_step s who c)
+  step_within c is =
+      let may = may_call c is in
+      subst (λ top. IsWithin top (item_of_step s who c)) (sym running.top_is) (record {
+        who = living_below s running.valid who (map.get s.procs who) refl (sym (running.living who) ∙ lives);
+        call = call_below s.top c may;
+        reply = reply_below s who c running.valid;
+        recs = records_below s who c may running.valid;
+      })
 
   module _ (place : ℕ) (at : place ≡ (move p).place) where
     abbrev mine : Standing
@@ -71,10 +89,11 @@ module _ (programs : Programs) (s : State) (standings : Standings) (last_turns :
           ∙ ap (λ progress. record state { progress = progress }) (select-insert_each pid_cmp_total pid_cmp_exact (λ q (a : Standing). progress_at programs a) standings who mine)
           ∙ sym (ap (λ (t : TurnResult). t.state) without)
 
-      pub running_without : (next : Standings) → next ≡ map.insert standings who mine → IsRunning s programs next
+      pub running_without : (next : Standings) → next ≡ map.insert standings who mine → IsRunning s programs next top
       running_without next is = record {
         valid = running.valid;
         programs_are = running.programs_are;
+        top_is = running.top_is;
         living = λ q.
             ap (λ m. is_some (map.get m q)) is
             ∙ ap is_some (get-insert pid_cmp_total standings who mine q)
@@ -102,12 +121,13 @@ module _ (programs : Programs) (s : State) (standings : Standings) (last_turns :
           (progress_then programs s running.valid standings running.living who (replied mine after.reply) lives c)
           ∙ sym (ap (λ (t : TurnResult). t.state) with_it)
 
-      pub running_with : (t : State) (next : Standings) → t ≡ after.state → next ≡ standings_after_call s who mine c standings → IsRunning t programs next
-      running_with t next same is =
-          let may = may_call c some in
-          subst (λ (t : State). IsRunning t programs next) (sym same) (record {
-            valid = valid_step s who c may.0 may.1 running.valid;
+      pub running_with : has_names c ≡ true → (after_top : Label) → after_top ≡ top → (t : State) (next : Standings) → t ≡ after.state → next ≡ standings_after_call s who mine c standings
+          → IsRunning t programs next after_top
+      running_with names after_top same_top t next same is =
+          subst (λ (t : State). IsRunning t programs next after_top) (sym same) (record {
+            valid = valid_step s who c (may_call c some) names running.valid;
             programs_are = ap (λ top. are_programs top programs) (top_step s who c) ∙ running.programs_are;
+            top_is = same_top ∙ running.top_is ∙ sym (top_step s who c);
             living = λ q. ap (λ m. is_some (map.get m q)) is ∙ living_then programs s running.valid standings running.living who (replied mine after.reply) lives c q;
           })
 

@@ -148,10 +148,11 @@ module _ (programs : Programs) (s : State) (living : List Pid) (standings : Stan
   some_if true a = refl
   some_if false a = refl
 
-  pub starts_running : IsValid s → are_programs s.top programs ≡ true → IsRunning s programs standings
-  starts_running valid programs_are = record {
+  pub starts_running : IsValid s → are_programs s.top programs ≡ true → (top : Label) → top ≡ s.top → IsRunning s programs standings top
+  starts_running valid programs_are top top_is = record {
     valid = valid;
     programs_are = programs_are;
+    top_is = top_is;
     living = λ q. sym (shown_some (map.get standings q)) ∙ ap is_some (are q) ∙ some_if _ _ ∙ lives q;
   }
 
@@ -162,8 +163,9 @@ module _ (programs : Programs) (s : State) (living : List Pid) (standings : Stan
   are_there : AreStarted programs living standings
   are_there = subst (λ ps. AreStarted ps living standings) same_first (subst (λ ls. AreStarted first ls standings) same_listed are)
 
-  pub start_running : IsValid s → are_programs s.top programs ≡ true → IsRunning s used standings
-  start_running valid programs_are = subst (λ ps. IsRunning s ps standings) (sym same_used) (starts_running programs s living standings all are_there valid programs_are)
+  pub start_running : IsValid s → are_programs s.top programs ≡ true → (top : Label) → top ≡ s.top → IsRunning s used standings top
+  start_running valid programs_are top top_is =
+      subst (λ ps. IsRunning s ps standings top) (sym same_used) (starts_running programs s living standings all are_there valid programs_are top top_is)
 
   pub start_state : {X : Type 0} (of : LoopState → List Label → X) (last_turns : FinMap label_cmp ℕ) → last_turns ≡ map.empty → (rounds : ℕ) (slices labels : List Label) → labels ≡ slices
       → of (loop_state s used standings last_turns) (repeat rounds labels) ≡ of (loop_start s programs) (repeat rounds slices)

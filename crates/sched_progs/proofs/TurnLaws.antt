@@ -1,5 +1,5 @@
 -- One turn of a process: what stays true of a loop, and what the part does.
-use Rattle.std.specs.Prelude.{◌≡◌, Bool, true, false, Option, Some, None, refl, cond, is_some, option_to_list, unwrap_or}
+use Rattle.std.specs.Prelude.{◌≡◌, Bool, true, false, List, Option, Some, None, refl, cond, is_some, option_to_list, unwrap_or}
 use Rattle.std.specs.List.{list_all, list_any}
 use Rattle.std.specs.FinMap as map
 use Rattle.std.proofs.Common.{sym, ◌∙◌, ap, subst}
@@ -7,6 +7,7 @@ use Rattle.std.proofs.lemmas.Bool.{or_parts}
 use Rattle.lab_lattice.specs.Label.{Label}
 use Rattle.kern_model.specs.declared.calls.Call.{Call}
 use Rattle.kern_model.specs.declared.numbers.Pid.{Pid}
+use Rattle.kern_model.specs.Arguments.{has_names, is_call}
 use Rattle.kern_model.specs.Isolation.{low, any_crosses, part, Kept}
 use Rattle.kern_model.specs.Keys.{same_pid}
 use Rattle.kern_model.specs.State.{State}
@@ -17,20 +18,29 @@ use Rattle.kern_model.proofs.MapLemmas.{each-insert, same_key}
 use Rattle.std.specs.FinMap.{get-insert}
 use Rattle.iso_laws.proofs.Part.{low_pid}
 use Rattle.iso_laws.proofs.Steps.{low_step, other_step, kept_step, valid_step, top_step}
-use Rattle.sched_progs.specs.Programs.{Progress, is_step, last_of}
+use Rattle.script_text.specs.declared.step.ProgStep.{ProgStep}
+use Rattle.sched_progs.specs.Programs.{Progress, call_passes, last_of}
 use Rattle.sched_progs.specs.Turns.{LoopItem, LoopState, TurnResult, call_result, child_of, progress_after, progress_of_living, turn_by}
 use Rattle.sched_progs.specs.Laws.{item_crosses}
 use Rattle.sched_progs.proofs.LowParts.{part-insert, part-insert_other}
-use Rattle.sched_progs.proofs.Moves.{MayCall}
+use Rattle.sched_progs.proofs.Moves.{Passes}
 use Rattle.sched_progs.proofs.NextTurns.{low_progress, part_loop}
 use Rattle.sched_progs.proofs.Processes.{after_in_part, after_of_other, each_is, living_each}
+
+-- the arguments of each call of these steps are in their ranges, and what it may name an entry by is a name
+abbrev pub MayRun : Label → List ProgStep → Type 0
+MayRun top steps = (list_all (call_passes (is_call top)) steps ≡ true) × (list_all (call_passes has_names) steps ≡ true)
+
+-- so are those of a call, if there is one
+abbrev pub MayMake : Label → Option Call → Type 0
+MayMake top c = Passes (is_call top) c × Passes has_names c
 
 -- what holds of each state of a loop until something crosses: the kernel's state is valid and kept, each living process has a program that may be played,
 -- and no other process has one
 pub record IsGoing (l : Label) (x : LoopState) : Type 0 where
   pub valid : IsValid x.kernel
   pub kept : Kept l x.kernel
-  pub steps : (q : Pid) (p : Progress) → map.get x.progress q ≡ Some p → list_all (is_step x.kernel.top) p.steps ≡ true
+  pub steps : (q : Pid) (p : Progress) → map.get x.progress q ≡ Some p → MayRun x.kernel.top p.steps
   pub living : (q : Pid) → is_some (map.get x.progress q) ≡ is_some (map.get x.kernel.procs q)
 
 -- what a turn by a process does to a state of a loop and to its part
@@ -42,19 +52,19 @@ pub record TurnsBeside (l : Label) (is_low : Bool) (x : LoopState) (part_turn t 
 
 -- after a call each process has the steps of its own, or those of the caller
 steps_after : (top : Label) (x : LoopState) (s : State) (who : Pid) (mine : Progress)
-    → ((q : Pid) (p : Progress) → map.get x.progress q ≡ Some p → list_all (is_step top) p.steps ≡ true) → list_all (is_step top) mine.steps ≡ true
-    → (q : Pid) (p : Progress) → map.get (progress_of_living s who mine x.progress) q ≡ Some p → list_all (is_step top) p.steps ≡ true
+    → ((q : Pid) (p : Progress) → map.get x.progress q ≡ Some p → MayRun top p.steps) → MayRun top mine.steps
+    → (q : Pid) (p : Progress) → map.get (progress_of_living s who mine x.progress) q ≡ Some p → MayRun top p.steps
 steps_after top x s who mine steps own q p is =
-    subst (λ (p : Progress). list_all (is_step top) p.steps ≡ true) (each_is (progress_after who mine x.progress) s.procs q p is)
-    (elim (same_pid q who) as (λ b. list_all (is_step top) (cond b mine (unwrap_or (map.get x.progress q) (child_of mine))).steps ≡ true) [
+    subst (λ (p : Progress). MayRun top p.steps) (each_is (progress_after who mine x.progress) s.procs q p is)
+    (elim (same_pid q who) as (λ b. MayRun top (cond b mine (unwrap_or (map.get x.progress q) (child_of mine))).steps) [
       | true ↦ own
-      | false ↦ elim (map.get x.progress q) as (λ w. map.get x.progress q ≡ w → list_all (is_step top) (unwrap_or w (child_of mine)).steps ≡ true) [
+      | false ↦ elim (map.get x.progress q) as (λ w. map.get x.progress q ≡ w → MayRun top (unwrap_or w (child_of mine)).steps) [
         | None ↦ λ _. own
         | Some r ↦ λ e. steps q r e
       ] refl
     ])
 
-module _ (l : Label) (x : LoopState) (going : IsGoing l x) (who : Pid) (mine : Progress) (own : list_all (is_step x.kernel.top) mine.steps ≡ true) where
+module _ (l : Label) (x : LoopState) (going : IsGoing l x) (who : Pid) (mine : Progress) (own : MayRun x.kernel.top mine.steps) where
   -- a turn without a call
   module _ (lives : is_some (map.get x.progress who) ≡ true) where
     living_there : (q : Pid) → is_some (map.get (map.insert x.progress who mine) q) ≡ is_some (map.get x.kernel.procs q)
@@ -70,7 +80,7 @@ module _ (l : Label) (x : LoopState) (going : IsGoing l x) (who : Pid) (mine : P
       going = record {
         valid = going.valid;
         kept = going.kept;
-        steps = each-insert pid_cmp_total pid_cmp_exact (λ q (p : Progress). list_all (is_step x.kernel.top) p.steps ≡ true) x.progress going.steps who mine own;
+        steps = each-insert pid_cmp_total pid_cmp_exact (λ q (p : Progress). MayRun x.kernel.top p.steps) x.progress going.steps who mine own;
         living = living_there;
       };
       low_same = λ is. ap (λ progress. record { state = record (part_loop l x) { progress = progress }; item = None })
@@ -80,7 +90,7 @@ module _ (l : Label) (x : LoopState) (going : IsGoing l x) (who : Pid) (mine : P
     }
 
   -- a turn with a call that crosses nothing
-  module _ (c : Call) (may : MayCall x.kernel.top (Some c)) (inside : any_crosses l (step x.kernel who c).recs ≡ false) where
+  module _ (c : Call) (may : MayMake x.kernel.top (Some c)) (inside : any_crosses l (step x.kernel who c).recs ≡ false) where
     abbrev after : StepResult
     after = step x.kernel who c
 
@@ -96,7 +106,7 @@ module _ (l : Label) (x : LoopState) (going : IsGoing l x) (who : Pid) (mine : P
         record {
           valid = valid_step x.kernel who c may.0 may.1 going.valid;
           kept = kept_after;
-          steps = λ q p is. ap (λ top. list_all (is_step top) p.steps) same_top ∙ steps_after x.kernel.top x after.state who replied going.steps own q p is;
+          steps = λ q p is. subst (λ top. MayRun top p.steps) (sym same_top) (steps_after x.kernel.top x after.state who replied going.steps own q p is);
           living = λ q. living_each (progress_after who replied x.progress) after.state.procs q;
         }
 
@@ -118,7 +128,7 @@ module _ (l : Label) (x : LoopState) (going : IsGoing l x) (who : Pid) (mine : P
     }
 
   -- a turn that crosses nothing
-  pub turn_beside : is_some (map.get x.progress who) ≡ true → (c : Option Call) → MayCall x.kernel.top c
+  pub turn_beside : is_some (map.get x.progress who) ≡ true → (c : Option Call) → MayMake x.kernel.top c
       → list_any (item_crosses l) (option_to_list (turn_by x who mine c).item) ≡ false → TurnsBeside l (low l who.label) x (turn_by (part_loop l x) who mine c) (turn_by x who mine c)
   turn_beside lives None may inside = no_call lives
   turn_beside lives (Some c) may inside = with_call c may (or_parts (any_crosses l (step x.kernel who c).recs) false inside).0

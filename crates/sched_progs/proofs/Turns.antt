@@ -1,18 +1,19 @@
 -- A turn of a label in the part, and in the state.
 use Rattle.std.specs.Prelude.{◌≡◌, ℕ, true, false, Option, Some, None, refl, is_some, option_to_list}
-use Rattle.std.specs.List.{list_all, list_any}
+use Rattle.std.specs.List.{list_any}
 use Rattle.std.proofs.Common.{sym, ◌∙◌, ap}
 use Rattle.lab_lattice.specs.Label.{Label}
 use Rattle.lab_lattice.proofs.Labels.{label_cmp_total, label_cmp_exact}
 use Rattle.kern_model.specs.declared.numbers.Pid.{Pid}
+use Rattle.kern_model.specs.Arguments.{has_names, is_call}
 use Rattle.kern_model.specs.Isolation.{low}
-use Rattle.sched_progs.specs.Programs.{Progress, is_step, move}
+use Rattle.sched_progs.specs.Programs.{Progress, move}
 use Rattle.sched_progs.specs.Turns.{LoopState, next_in_turn, turn, turn_by, turn_of, with_turn}
 use Rattle.sched_progs.specs.Laws.{item_crosses}
 use Rattle.sched_progs.proofs.LowParts.{part-insert, part-insert_other}
-use Rattle.sched_progs.proofs.Moves.{may_move}
+use Rattle.sched_progs.proofs.Moves.{move_passes}
 use Rattle.sched_progs.proofs.NextTurns.{part_loop, next_is, same_next}
-use Rattle.sched_progs.proofs.TurnLaws.{IsGoing, TurnsBeside, turn_beside}
+use Rattle.sched_progs.proofs.TurnLaws.{IsGoing, MayRun, TurnsBeside, turn_beside}
 
 module _ (l : Label) (x : LoopState) (going : IsGoing l x) (k : Label) where
   -- that a number had the last turn is seen of a Low label
@@ -33,7 +34,7 @@ module _ (l : Label) (x : LoopState) (going : IsGoing l x) (k : Label) where
     going_noted : IsGoing l noted
     going_noted = record { valid = going.valid; kept = going.kept; steps = going.steps; living = going.living }
 
-    own : list_all (is_step x.kernel.top) e.1.steps ≡ true
+    own : MayRun x.kernel.top e.1.steps
     own = going.steps e.0 e.1 (next_is x k e is).1
 
     of_process : list_any (item_crosses l) (option_to_list (turn_of x k (Some e)).item) ≡ false
@@ -41,7 +42,7 @@ module _ (l : Label) (x : LoopState) (going : IsGoing l x) (k : Label) where
     of_process inside =
         let next = next_is x k e is in
         let beside : TurnsBeside l (low l e.0.label) noted (turn_by (part_loop l noted) e.0 mine (move e.1).call) (turn_by noted e.0 mine (move e.1).call) =
-        turn_beside l noted going_noted e.0 mine own (ap is_some next.1) (move e.1).call (may_move x.kernel.top e.1 own) inside in
+        turn_beside l noted going_noted e.0 mine own (ap is_some next.1) (move e.1).call (move_passes (is_call x.kernel.top) e.1 own.0, move_passes has_names e.1 own.1) inside in
         let same_low : low l e.0.label ≡ low l k = ap (low l) next.0 in
         record {
           going = beside.going;

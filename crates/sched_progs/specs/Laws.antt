@@ -11,7 +11,7 @@ use Rattle.kern_model.specs.State.{State}
 use Rattle.kern_model.specs.Valid.{IsValid}
 use Rattle.kern_model.specs.World.{IsWorld}
 use Rattle.sched_progs.specs.declared.program.Program.{Program}
-use Rattle.sched_progs.specs.Programs.{Programs, are_programs}
+use Rattle.sched_progs.specs.Programs.{Programs, are_programs, have_names}
 use Rattle.sched_progs.specs.Turns.{LoopItem}
 use Rattle.sched_progs.specs.Loop.{loop, loop_end}
 
@@ -44,11 +44,13 @@ loop_alone l s programs slices rounds = loop (part l s) (part_programs l program
 
 -- ---- the law
 
--- a valid state that is kept, and programs that may be played on it
+-- a valid state that is kept, and programs that may be played on it: the names that their calls give are names, without which a state that they lead to is
+-- not valid
 pub record IsLoop (l : Label) (s : State) (programs : Programs) : Type 0 where
   pub valid : IsValid s
   pub kept : Kept l s
   pub programs_are : are_programs s.top programs ≡ true
+  pub names : have_names programs ≡ true
 
 -- the calls of Low numbers before the first one that crosses are a prefix of the part alone: the same calls, replies and records
 abbrev pub ClosedLoopPrefix : Type 0
@@ -68,7 +70,7 @@ ClosedLoopEnd = (l : Label) (s : State) (programs : Programs) (slices : List Lab
 
 -- the first state of a world that is accepted has all of this, for every label
 abbrev pub LoopOfWorld : Type 0
-LoopOfWorld = (l : Label) (w : World) (programs : Programs) → IsWorld w → are_programs w.top programs ≡ true → IsLoop l (boot w) programs
+LoopOfWorld = (l : Label) (w : World) (programs : Programs) → IsWorld w → are_programs w.top programs ≡ true → have_names programs ≡ true → IsLoop l (boot w) programs
 
 -- on two states with the same part, two loops with the same Low programs and Low slices make the same calls of Low numbers, before the first that crosses:
 -- one list is a prefix of the other

@@ -1,5 +1,5 @@
 -- Programs: how a process goes through the steps of its own, by its last reply, and which call it makes.
-use Rattle.std.specs.Prelude.{ℕ, zero, suc, ◌+◌, ◌==◌, ◌&&◌, Bool, true, false, cond, List, Option, Some, None, slice_get, [], ◌∷◌}
+use Rattle.std.specs.Prelude.{ℕ, zero, suc, ◌+◌, ◌==◌, Bool, true, false, cond, List, Option, Some, None, slice_get, [], ◌∷◌}
 use Rattle.std.specs.List.{list_all}
 use Rattle.lab_lattice.specs.Label.{Label}
 use Rattle.kern_model.specs.declared.calls.Answer.TheVariants as answer
@@ -85,11 +85,19 @@ move p = move_from p.steps p.last max_jumps p.place
 
 -- ---- programs that may be played
 
--- a step that may be played, where top is the highest label: the arguments of its call are in their ranges
-abbrev pub is_step : Label → ProgStep → Bool
-is_step top (step.Do call) = is_call top call && has_names call
-is_step top _ = true
+-- a step whose call, if it makes one, passes a test
+abbrev pub call_passes : (Call → Bool) → ProgStep → Bool
+call_passes test (step.Do call) = test call
+call_passes test _ = true
 
 -- programs of such steps
+abbrev pub calls_pass : (Call → Bool) → Programs → Bool
+calls_pass test programs = list_all (λ (p : Pid × Program). list_all (call_passes test) p.1.steps) programs
+
+-- the arguments of each call are in their ranges, where top is the highest label
 abbrev pub are_programs : Label → Programs → Bool
-are_programs top programs = list_all (λ (p : Pid × Program). list_all (is_step top) p.1.steps) programs
+are_programs top programs = calls_pass (is_call top) programs
+
+-- and what each call may name an entry by is a name
+abbrev pub have_names : Programs → Bool
+have_names programs = calls_pass has_names programs

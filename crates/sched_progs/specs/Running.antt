@@ -1,6 +1,7 @@
 -- Programs that run on a kernel: what holds while they do, and what one call does.
 use Rattle.std.specs.Prelude.{◌≡◌, true, is_some}
 use Rattle.std.specs.FinMap as map
+use Rattle.lab_lattice.specs.Label.{Label}
 use Rattle.kern_model.specs.declared.calls.Call.{Call}
 use Rattle.kern_model.specs.declared.calls.Reply.{Reply}
 use Rattle.kern_model.specs.declared.numbers.Pid.{Pid}
@@ -12,11 +13,13 @@ use Rattle.sched_progs.specs.Programs.{Programs, are_programs, last_of}
 use Rattle.sched_progs.specs.Standings.{Standings, standings_after}
 use Rattle.sched_progs.specs.Turns.{LoopItem}
 
--- the kernel's state is valid, the programs may be played on it, and it is known of each living process where it is, and of no other
-pub record IsRunning (s : State) (programs : Programs) (standings : Standings) : Type 0 where
+-- the kernel's state is valid, the programs may be played on it, it is known of each living process where it is, and of no other, and the watch has the
+-- highest label of the state
+pub record IsRunning (s : State) (programs : Programs) (standings : Standings) (top : Label) : Type 0 where
   pub valid : IsValid s
   pub programs_are : are_programs s.top programs ≡ true
   pub living : (q : Pid) → is_some (map.get standings q) ≡ is_some (map.get s.procs q)
+  pub top_is : top ≡ s.top
 
 -- a step as the item of a loop
 abbrev pub item_of_step : State → Pid → Call → LoopItem

@@ -27,6 +27,7 @@ pub fn run_programs<C: Calls, W: Watch>(
     watch: &mut W,
 ) -> Result<(), SchedFault>
     requires valid { IsValid (C.state kernel.old) }
+    requires top { W.top watch.old ≡ (C.state kernel.old).top }
     requires living { living.now ≡ map.keys (C.state kernel.old).procs }
     requires programs { are_programs (C.state kernel.old).top programs.now ≡ true }
     requires going { W.refused watch.old ≡ [] }

@@ -55,7 +55,7 @@ impl Schedule {
         rounds: u32,
         watch: &mut W,
     ) -> Result<(), SchedFault>
-        requires running { IsRunning (C.state kernel.old) programs.now self.old.standings }
+        requires running { IsRunning (C.state kernel.old) programs.now self.old.standings (W.top watch.old) }
         requires going { W.refused watch.old ≡ [] }
         ensures saw { SawCalls result (items_of_turns (state_of (C.state kernel.old) programs.now self.old) (repeat rounds slices.now)) (W.seen watch.old) (W.seen watch.new) (W.refused watch.new) }
         ensures state { OnOk result (C.state kernel.new ≡ (state_after_turns (state_of (C.state kernel.old) programs.now self.old) (repeat rounds slices.now)).kernel) }
@@ -78,12 +78,12 @@ impl Schedule {
         slices: &[Label],
         watch: &mut W,
     ) -> Result<(), SchedFault>
-        requires running { IsRunning (C.state kernel.old) programs.now self.old.standings }
+        requires running { IsRunning (C.state kernel.old) programs.now self.old.standings (W.top watch.old) }
         requires going { W.refused watch.old ≡ [] }
         ensures saw { SawCalls result (items_of_turns (state_of (C.state kernel.old) programs.now self.old) slices.now) (W.seen watch.old) (W.seen watch.new) (W.refused watch.new) }
         ensures going { OnOk result (W.refused watch.new ≡ []) }
         ensures state { OnOk result (state_of (C.state kernel.new) programs.now self.new ≡ state_after_turns (state_of (C.state kernel.old) programs.now self.old) slices.now) }
-        ensures running { OnOk result (IsRunning (C.state kernel.new) programs.now self.new.standings) }
+        ensures running { OnOk result (IsRunning (C.state kernel.new) programs.now self.new.standings (W.top watch.new)) }
         ensures top { W.top watch.new ≡ W.top watch.old }
         ensures rest { W.same_rest watch.old watch.new }
         ensures later { W.faults watch.old ≤ W.faults watch.new }
@@ -103,11 +103,11 @@ impl Schedule {
         label: &Label,
         watch: &mut W,
     ) -> Result<(), SchedFault>
-        requires running { IsRunning (C.state kernel.old) programs.now self.old.standings }
+        requires running { IsRunning (C.state kernel.old) programs.now self.old.standings (W.top watch.old) }
         requires going { W.refused watch.old ≡ [] }
         ensures saw { SawCalls result (option_to_list (turn (state_of (C.state kernel.old) programs.now self.old) label.now).item) (W.seen watch.old) (W.seen watch.new) (W.refused watch.new) }
         ensures state { OnOk result (state_of (C.state kernel.new) programs.now self.new ≡ (turn (state_of (C.state kernel.old) programs.now self.old) label.now).state) }
-        ensures running { OnOk result (IsRunning (C.state kernel.new) programs.now self.new.standings) }
+        ensures running { OnOk result (IsRunning (C.state kernel.new) programs.now self.new.standings (W.top watch.new)) }
         ensures top { W.top watch.new ≡ W.top watch.old }
         ensures rest { W.same_rest watch.old watch.new }
         ensures later { W.faults watch.old ≤ W.faults watch.new }
@@ -140,12 +140,12 @@ impl Schedule {
         standing: Standing,
         watch: &mut W,
     ) -> Result<(), SchedFault>
-        requires running { IsRunning (C.state kernel.old) programs.now self.old.standings }
+        requires running { IsRunning (C.state kernel.old) programs.now self.old.standings (W.top watch.old) }
         requires there { map.get self.old.standings who.now ≡ Some standing }
         requires going { W.refused watch.old ≡ [] }
         ensures saw { SawCalls result (option_to_list (turn_of_process (state_of (C.state kernel.old) programs.now self.old) who.now (progress_at programs.now standing)).item) (W.seen watch.old) (W.seen watch.new) (W.refused watch.new) }
         ensures state { OnOk result (state_of (C.state kernel.new) programs.now self.new ≡ (turn_of_process (state_of (C.state kernel.old) programs.now self.old) who.now (progress_at programs.now standing)).state) }
-        ensures running { OnOk result (IsRunning (C.state kernel.new) programs.now self.new.standings) }
+        ensures running { OnOk result (IsRunning (C.state kernel.new) programs.now self.new.standings (W.top watch.new)) }
         ensures top { W.top watch.new ≡ W.top watch.old }
         ensures rest { W.same_rest watch.old watch.new }
         ensures later { W.faults watch.old ≤ W.faults watch.new }

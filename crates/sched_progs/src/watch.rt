@@ -2,7 +2,7 @@
 ghost use Rattle.std.specs.Prelude.{◌≡◌, ◌≤◌, ◌<◌, [], ℕ, List, IfErr};
 ghost use Rattle.lab_lattice.specs.Label.{Label as LabelValue};
 ghost use Rattle.sched_progs.specs.Turns.{LoopItem};
-ghost use Rattle.sched_progs.specs.Watching.{Saw, item_of};
+ghost use Rattle.sched_progs.specs.Watching.{IsWithin, Saw, item_of};
 
 use kern_model::{Call, NoMemory, Outcome, Pid};
 
@@ -45,9 +45,10 @@ pub trait Watch {
     /// What a call leaves as it is.
     ghost same_rest: { Self → Self → Type 0 };
 
-    /// Takes in one call. After a refusal it takes in no more.
+    /// Takes in one call, of which its label dominates each label. After a refusal it takes in no more.
     fn saw(&mut self, who: &Pid, call: &Call, outcome: &Outcome) -> Result<(), SchedFault>
         requires going { refused self.old ≡ [] }
+        requires within { IsWithin (top self.old) (item_of who.now call.now outcome.now) }
         ensures saw { Saw result (item_of who.now call.now outcome.now) (seen self.old) (seen self.new) (refused self.new) }
         ensures top { top self.new ≡ top self.old }
         ensures rest { same_rest self.old self.new }

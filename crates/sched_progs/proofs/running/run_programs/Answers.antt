@@ -12,7 +12,7 @@ returns-in_err-standings-clause-saw g c = none_seen c.from_residual.result _ _ _
 pub rounds-requires-clause-running : goal.rounds-requires-clause-running
 rounds-requires-clause-running g c =
     start_running c.args.programs.now (g.C.Calls.state c.args.kernel.now) c.args.living.now c.in_ok-standings.standings c.requires.living c.items-2.result.now c.items.result.now
-    c.in_ok-standings.ensures c.items-2.ensures c.items.ensures c.items-3.result.now c.items-3.ensures c.requires.valid c.requires.programs
+    c.in_ok-standings.ensures c.items-2.ensures c.items.ensures c.items-3.result.now c.items-3.ensures c.requires.valid c.requires.programs (g.W.Watch.top c.args.watch.now) c.requires.top
 
 pub returns-clause-saw : goal.returns-clause-saw
 returns-clause-saw g c =

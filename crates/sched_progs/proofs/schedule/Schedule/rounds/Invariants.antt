@@ -17,7 +17,7 @@ invariant-loop g l =
       underway : Underway (items_of_turns first all) (items_of_turns at left) (g.W.Watch.seen l.initial.watch) (g.W.Watch.seen l.watch);
       going : g.W.Watch.refused l.watch ≡ [];
       after : state_after_turns at left ≡ state_after_turns first all;
-      running : IsRunning state l.programs l.self.standings;
+      running : IsRunning state l.programs l.self.standings (g.W.Watch.top l.watch);
       top : g.W.Watch.top l.watch ≡ g.W.Watch.top l.initial.watch;
       rest : g.W.Watch.same_rest l.initial.watch l.watch;
       later : g.W.Watch.faults l.initial.watch ≤ g.W.Watch.faults l.watch;
