@@ -6,6 +6,7 @@ pub mod TurnLaws
 pub mod Turns
 pub mod Loops
 pub mod Laws
+pub mod ChosenLaws
 pub mod Living
 pub mod StandingLemmas
 pub mod Followed

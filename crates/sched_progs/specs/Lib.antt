@@ -2,6 +2,7 @@ pub mod Programs
 pub mod Turns
 pub mod Loop
 pub mod Laws
+pub mod Chosen
 pub mod Watching
 pub mod Standings
 pub mod Running

@@ -1,6 +1,7 @@
 //! Programs of processes, which choose their next call by the last reply, in turns by label.
 #![tactic(auto)]
 
+ghost use Rattle.sched_progs.specs.Chosen.{LoopIsRun};
 ghost use Rattle.sched_progs.specs.Laws.{ClosedLoopPrefix, ClosedLoopWhole, ClosedLoopEnd, LoopOfWorld, TwoLoopsAgree};
 
 mod calling;
@@ -27,4 +28,10 @@ pub fn closed_loop()
     ensures end { ClosedLoopEnd }
     ensures start { LoopOfWorld }
     ensures two { TwoLoopsAgree }
+{}
+
+/// What programs do in turns is the run of the script that they choose: the same calls in the same order, with the same replies and
+/// records, which end in the same state.
+pub fn chosen_script()
+    ensures { LoopIsRun }
 {}
