@@ -31,7 +31,7 @@ unfolding report_after
 after_calls r [] more = refl
 after_calls r (p ∷ ps) more = after_calls (report_after_call r p) ps more
 
-reported_calls : (policy : PolicyNames) (r : Report) (n : ℕ) (ps more : List CallRecord) → sends_from r policy n (ps ++ more) ≡ sends_from r policy n ps ++ sends_from (report_after r ps) policy (n + length ps) more
+pub reported_calls : (policy : PolicyNames) (r : Report) (n : ℕ) (ps more : List CallRecord) → sends_from r policy n (ps ++ more) ≡ sends_from r policy n ps ++ sends_from (report_after r ps) policy (n + length ps) more
 unfolding sends_from report_after
 reported_calls policy r n [] more = let none : n ≡ n + 0 = omega arith in ap (λ k. sends_from r policy k more) none
 reported_calls policy r n (p ∷ ps) more =
@@ -55,12 +55,12 @@ numbered_calls n (q ∷ qs) p =
 -- ---- one more call
 
 -- no call was seen
-held_at_start : (policy : PolicyNames) (r : Report) (e : Ends) → HoldReports policy r r [] [] e e
+pub held_at_start : (policy : PolicyNames) (r : Report) (e : Ends) → HoldReports policy r r [] [] e e
 unfolding sends_from report_after
 held_at_start policy r e = record { front = []; rest = []; next = refl; sends = (all_nothing e).sends; report = λ _. refl; readable = λ _. tt; one = omega arith }
 
 -- a prefix of nothing
-none_before : (front rest : List Sent) → [] ≡ front ++ rest → front ≡ []
+pub none_before : (front rest : List Sent) → [] ≡ front ++ rest → front ≡ []
 none_before [] rest is = refl
 none_before (x ∷ front) rest is = grind rules
 
@@ -75,7 +75,7 @@ module _ (policy : PolicyNames) (first now : Report) (seen stopped : List CallRe
       ap (λ (o : List Sent). sends_from first policy 1 seen ++ o) (none_before k.front k.rest (sym (ap (sends_from (report_after first seen) policy (length seen + 1)) none) ∙ k.next))
       ∙ append-nil (sends_from first policy 1 seen)
 
-  sent : Sends (sends_from first policy 1 seen) before after
+  pub sent : Sends (sends_from first policy 1 seen) before after
   sent = subst (λ (o : List Sent). Sends o before after) whole k.sends
 
   module _ (n : ℕ) (is : n ≡ length seen + 1) (p : CallRecord) where
@@ -102,7 +102,7 @@ module _ (policy : PolicyNames) (first now : Report) (seen stopped : List CallRe
         subst (AllByRecursion (IsReadable policy)) (sym (numbered_calls 1 seen p)) (all-append (IsReadable policy) (numbered_from 1 seen) _ (k.readable all) recs)
 
     -- the call was reported
-    held_more : (now' : Report) (later : Ends) → now' ≡ report_after_call now p → (now ≡ All → AreReadable policy n p.recs) → SendsAll (call_sends now policy n p) after later → HoldReports policy first now' (seen ++ p ∷ []) stopped before later
+    pub held_more : (now' : Report) (later : Ends) → now' ≡ report_after_call now p → (now ≡ All → AreReadable policy n p.recs) → SendsAll (call_sends now policy n p) after later → HoldReports policy first now' (seen ++ p ∷ []) stopped before later
     unfolding sends_from report_after
     held_more now' later taken own sends = record {
       front = [];
@@ -115,7 +115,7 @@ module _ (policy : PolicyNames) (first now : Report) (seen stopped : List CallRe
     }
 
     -- a fault stopped it
-    held_stop : (now' : Report) (later : Ends) (fault : Fault) → StopsBy fault (call_sends now policy n p) after later → HoldReports policy first now' seen (p ∷ []) before later
+    pub held_stop : (now' : Report) (later : Ends) (fault : Fault) → StopsBy fault (call_sends now policy n p) after later → HoldReports policy first now' seen (p ∷ []) before later
     held_stop now' later fault stop = record {
       front = stop.sends.sent;
       rest = stop.sends.rest;

@@ -23,7 +23,7 @@ pub use generated::Generated;
 pub use opening::{Opened, OpenedWorld, open_input};
 pub use playing::{Played, play_script};
 pub use reading::{NextLine, read_next};
-pub use reporter::{Reporter, answer, report_last, write_head};
+pub use reporter::{Reporter, answer, note_all, report_last, write_head};
 pub use reporting::{Report, Tally};
 pub use texts::{Texts, end_line};
 pub use upgrading::upgrade_script;

@@ -66,8 +66,8 @@ pub fn report_last<K: Sink>(
     answer(out, &text)
 }
 
-// Writes the records of a call to the trail, each as one piece. The text in `buffer` is not read.
-fn note_all<T: Sink>(
+/// Writes the records of a call to the trail, each as one piece. The text in `buffer` is not read.
+pub fn note_all<T: Sink>(
     texts: Texts<'_>,
     call: u64,
     recs: &[Rec],
