@@ -33,7 +33,8 @@ use Rattle.sched_progs.specs.declared.watch.SchedFault.{SchedFault}
 use Rattle.sched_progs.specs.declared.watch.SchedFault.TheVariants.{Stopped}
 use Rattle.sched_progs.specs.Turns.{LoopItem}
 use Rattle.sched_progs.specs.Watching.{SawPart, item_of}
-use Rattle.sched_engine.specs.Reporting.{AreItemsReadable, HoldItems, HoldItemsSince, counted_after, end_faults, item_sends, items_in, items_sends, record_of_item, records_of_items, sched_fault_of}
+use Rattle.sched_progs.specs.Chosen.{record_of_item}
+use Rattle.sched_engine.specs.Reporting.{AreItemsReadable, HoldItems, HoldItemsSince, counted_after, end_faults, item_sends, items_in, items_sends, records_of_items, sched_fault_of}
 use Rattle.sched_engine.proofs.Decisions.{prefix_known, sends_known}
 
 -- ---- one call

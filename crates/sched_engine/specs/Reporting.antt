@@ -7,7 +7,6 @@ use Rattle.io_ends.specs.Ends.{SinkView}
 use Rattle.kern_model.specs.declared.calls.Call.{Call}
 use Rattle.kern_model.specs.declared.numbers.Pid.{Pid}
 use Rattle.kern_model.specs.declared.records.Outcome.{Outcome}
-use Rattle.kern_model.specs.Names.{name_of, word_of}
 use Rattle.kern_model.specs.Run.{CallRecord}
 use Rattle.lab_text.specs.Policy.{PolicyNames}
 use Rattle.lab_engine.specs.declared.ending.Fault.{Fault}
@@ -22,15 +21,13 @@ use Rattle.lab_engine.specs.Reporter.{HoldReports}
 use Rattle.lab_engine.specs.Session.{numbered_from}
 use Rattle.sched_progs.specs.declared.watch.SchedFault.{SchedFault}
 use Rattle.sched_progs.specs.declared.watch.SchedFault.TheVariants as sched
+use Rattle.sched_progs.specs.Chosen.{record_of_item}
 use Rattle.sched_progs.specs.Turns.{LoopItem}
 use Rattle.sched_progs.specs.Watching.{item_of}
 
 -- ---- what is written
 
--- a call of a program as a script's call is reported: its reply shows the word of the call
-abbrev pub record_of_item : LoopItem → CallRecord
-record_of_item i = record { who = i.who; head = word_of (name_of i.call); reply = i.reply; recs = i.recs }
-
+-- calls of programs, as those of a script are reported: a reply shows the word of its call
 abbrev pub records_of_items : List LoopItem → List CallRecord
 records_of_items items = map record_of_item items
 

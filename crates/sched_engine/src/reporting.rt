@@ -10,7 +10,8 @@ ghost use Rattle.lab_text.specs.Policy.{top_of};
 ghost use Rattle.sched_progs.specs.Loop.{loop, loop_end};
 ghost use Rattle.sched_progs.specs.Programs.{are_programs};
 ghost use Rattle.sched_progs.specs.Watching.{item_of};
-ghost use Rattle.sched_engine.specs.Reporting.{AreItemsReadable, HoldItemsSince, item_sends, items_in, items_sends, record_of_item, sched_fault_of};
+ghost use Rattle.sched_progs.specs.Chosen.{record_of_item};
+ghost use Rattle.sched_engine.specs.Reporting.{AreItemsReadable, HoldItemsSince, item_sends, items_in, items_sends, sched_fault_of};
 
 use ghost_list::GhostList;
 use io_ends::Sink;
