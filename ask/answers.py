@@ -1,0 +1,40 @@
+"""How answers are written: JSON, tables of text, and progress on standard error."""
+import json
+import sys
+from typing import Any, Iterable, List, Sequence
+
+PLAYED = "Every answer was played by labsys."
+NOT_ABSENT = "What was not found is not shown to be absent."
+
+
+def write_json(value: Any) -> None:
+    """Writes a value as JSON to standard output, with the keys in their order; bytes of paths are characters of these numbers."""
+    json.dump(value, sys.stdout, indent=2)
+    sys.stdout.write("\n")
+
+
+def table(rows: Iterable[Sequence[str]], indent: str = "") -> List[str]:
+    """The lines of a table with columns as wide as their widest cell, two spaces between them and none at the end."""
+    rows = [list(row) for row in rows]
+    widths = [max(len(cell) for cell in column) for column in zip(*rows)]
+    return [(indent + "  ".join(cell.ljust(width) for cell, width in zip(row, widths))).rstrip() for row in rows]
+
+
+class Progress:
+    """Says on standard error how far a question is, where that is a terminal."""
+
+    def __init__(self, what: str, total: int):
+        self.what, self.total, self.shown = what, total, -1
+        self.terminal = sys.stderr.isatty()
+
+    def reached(self, count: int) -> None:
+        """Shows that `count` of the total are done, at most once for each hundredth."""
+        share = 100 * count // max(1, self.total)
+        if self.terminal and share != self.shown:
+            self.shown = share
+            print(f"\rlabask: {self.what}: {share} %", end="", file=sys.stderr, flush=True)
+
+    def end(self) -> None:
+        """Takes the line away."""
+        if self.terminal and self.shown >= 0:
+            print("\r\x1b[K", end="", file=sys.stderr, flush=True)

@@ -1,0 +1,110 @@
+"""The command line of `labask`: a subcommand for each question, each in a module of its own.
+
+The module of a question has `add_arguments(parser)` and `answer(arguments, player)`, which gives the exit status. It is imported
+when its question is asked.
+"""
+import argparse
+import importlib
+import os
+import sys
+from dataclasses import dataclass
+from typing import NoReturn, Optional, Sequence
+
+from playing import Player, PlayingFault, Refused, find_program
+
+DONE = 0
+USAGE = 1
+REFUSED = 2
+NO_PROGRAM = 70
+
+
+@dataclass(frozen=True)
+class Question:
+    """A question: the name of its module, and one line of help."""
+    module: str
+    help: str
+
+
+QUESTIONS = {
+    "check": Question("check", "does labsys accept FILE, and else what is wrong with the line that it refuses"),
+    "who": Question("who", "which process may read, write, execute, list or search which object, and by which right"),
+    "why": Question("why", "why was a call of the script denied or refused, and which capability would have let it pass"),
+    "flow": Question("flow", "can bytes of one object get to a process or another object, and by which calls"),
+    "cuts": Question("cuts", "which single changes of the world have a call denied"),
+    "page": Question("page", "one page of HTML with the run of FILE"),
+    "world": Question("world", "a world made from a directory"),
+    "trace": Question("trace", "script lines made from a log of strace"),
+}
+ENDING = """\
+Exit status: 0 where the question was answered, 1 for a wrong command line or a file that can't be read, 2 where labsys refuses
+the input, and 70 where labsys is missing or fails."""
+
+
+class QuestionParser(argparse.ArgumentParser):
+    """The parser of `labask` or of a question. That of a question imports the question's module at its first use."""
+    question: Optional[str] = None
+
+    def error(self, message: str) -> NoReturn:
+        """Ends with the status of a wrong command line."""
+        self.print_usage(sys.stderr)
+        self.exit(USAGE, f"{self.prog}: {message}\n")
+
+    def parse_known_args(self, args=None, namespace=None):
+        """As that of the base class, with the arguments of the question."""
+        if self.question is not None:
+            module = importlib.import_module(QUESTIONS[self.question].module)
+            self.question = None
+            module.add_arguments(self)
+            self.add_argument("--json", action="store_true", help="write the answer as JSON")
+            add_program(self, argparse.SUPPRESS)
+            self.set_defaults(answer=module.answer)
+        return super().parse_known_args(args, namespace)
+
+
+def add_program(parser: argparse.ArgumentParser, default: Optional[str]) -> None:
+    """Adds the option that names the program."""
+    parser.add_argument("--labsys", metavar="PROGRAM", default=default, help="the program labsys; else that of the variable LABSYS, "
+                        "the one beside the folder of labask, or the one on PATH")
+
+
+def make_parser() -> QuestionParser:
+    """The parser of the whole command line."""
+    parser = QuestionParser(prog="labask", epilog=ENDING, formatter_class=argparse.RawDescriptionHelpFormatter,
+                            description="Answers questions about a world by playing calls with labsys.")
+    add_program(parser, None)
+    questions = parser.add_subparsers(metavar="QUESTION", required=True)
+    for name, question in QUESTIONS.items():
+        made = questions.add_parser(name, help=question.help, description=question.help[0].upper() + question.help[1:] + ".")
+        made.question = name
+    return parser
+
+
+def say_refusal(arguments: argparse.Namespace, refused: Refused) -> None:
+    """Writes to standard error which line was refused, and what is wrong with it."""
+    import check
+
+    for line in check.explain(refused.text, refused.refusal, getattr(arguments, "file", "input")):
+        print(line, file=sys.stderr)
+
+
+def main(words: Optional[Sequence[str]] = None) -> int:
+    """Answers the question of a command line, and gives the exit status."""
+    arguments = make_parser().parse_args(words)
+    try:
+        return arguments.answer(arguments, Player([find_program(arguments.labsys)]))
+    except Refused as refused:
+        say_refusal(arguments, refused)
+        return REFUSED
+    except PlayingFault as fault:
+        print(f"labask: {fault}", file=sys.stderr)
+        return NO_PROGRAM
+    except BrokenPipeError:
+        os.dup2(os.open(os.devnull, os.O_WRONLY), sys.stdout.fileno())
+        return DONE
+    except OSError as fault:
+        print(f"labask: {fault.filename}: {fault.strerror}", file=sys.stderr)
+        return USAGE
+
+
+if __name__ == "__main__":
+    sys.exit(main())

@@ -1,0 +1,204 @@
+"""Plays worlds with `labsys`, and reads what it writes: replies, end lines, refusals, records."""
+import enum
+import json
+import os
+import pathlib
+import re
+import shutil
+import subprocess
+import tempfile
+from dataclasses import dataclass
+from functools import cached_property
+from typing import Any, Dict, Iterator, List, Optional, Sequence, Tuple
+
+from worlds import UTILITIES, Word, split_words
+
+STATUS_ACCEPTED = 0
+STATUS_REFUSED = 2
+STATUS_TOO_LONG = 7
+ANSWERED = (STATUS_ACCEPTED, STATUS_REFUSED, STATUS_TOO_LONG)
+
+
+class Outcome(enum.Enum):
+    """How a call was answered: it was done, a check denied it, or it was refused otherwise."""
+    DONE = "ok"
+    DENIED = "denied"
+    REFUSED = "refused"
+
+
+@dataclass(frozen=True)
+class Reply:
+    """The reply to a call. Its number counts calls from 1; `path` is that of a utility; `words` are those of the answer."""
+    number: int
+    tag: str
+    call: str
+    outcome: Outcome
+    error: Optional[str] = None
+    check: Optional[str] = None
+    place: Optional[str] = None
+    words: Tuple[Word, ...] = ()
+    path: Optional[bytes] = None
+
+    @property
+    def text(self) -> str:
+        """The reply without its tag and call, as `labsys` writes it."""
+        if self.outcome is Outcome.DONE:
+            return " ".join(["ok", *(word.written.decode("latin-1") for word in self.words)])
+        return " ".join(part for part in (self.error, self.check, self.place) if part)
+
+
+@dataclass(frozen=True)
+class End:
+    """An end line: a process that lives at the end, its present label and its capability sets."""
+    tag: str
+    label: str
+    caps: str
+
+
+@dataclass(frozen=True)
+class Refusal:
+    """The refusal of a line: its number, the part (`world`, `script`, `view`, `trail`, `select`) and the word of the fault."""
+    line: int
+    part: str
+    word: str
+
+    def __str__(self) -> str:
+        return f"refused {self.line} {self.part} {self.word}"
+
+
+class PlayingFault(Exception):
+    """`labsys` is missing, or it ended with a status that says nothing of its input."""
+
+
+class Refused(Exception):
+    """`labsys` refused a text: `refusal` says where, or is None where the text is too long."""
+
+    def __init__(self, text: bytes, refusal: Optional[Refusal]):
+        super().__init__(str(refusal) if refusal else "too long")
+        self.text = text
+        self.refusal = refusal
+
+
+def read_reply(number: int, words: Sequence[Word]) -> Reply:
+    """The reply that the words of a line have."""
+    tag, call, rest = words[0].text, words[1].text, list(words[2:])
+    path = rest.pop(0).value if call in UTILITIES else None
+    if rest[0].written == b"ok":
+        return Reply(number, tag, call, Outcome.DONE, words=tuple(rest[1:]), path=path)
+    names: List[Optional[str]] = [word.text for word in rest] + [None, None]
+    outcome = Outcome.DENIED if names[1] else Outcome.REFUSED
+    return Reply(number, tag, call, outcome, names[0], names[1], names[2], path=path)
+
+
+@dataclass(frozen=True)
+class Played:
+    """What a run of `labsys` wrote: its exit status, output, trail, and messages on standard error."""
+    status: int
+    out: bytes
+    trail: bytes
+    messages: bytes
+
+    @cached_property
+    def _lines(self) -> List[Tuple[Word, ...]]:
+        return [split_words(line)[0] for line in self.out.split(b"\n")[:-1]]
+
+    @cached_property
+    def replies(self) -> List[Reply]:
+        """The replies in the order of the calls; of a view, those that it shows, numbered in their order."""
+        shown = [words for words in self._lines if words and b"@" in words[0].value]
+        return [read_reply(number, words) for number, words in enumerate(shown, 1)]
+
+    @cached_property
+    def ends(self) -> Dict[str, End]:
+        """The end lines by the tags of their processes."""
+        ends = [words for words in self._lines if words and words[0].written == b"end"]
+        return {words[1].text: End(words[1].text, words[2].text, words[3].text) for words in ends}
+
+    @cached_property
+    def refusal(self) -> Optional[Refusal]:
+        """The refusal of the last line, if there is one."""
+        words = self._lines[-1] if self._lines else ()
+        if not words or words[0].written != b"refused":
+            return None
+        return Refusal(int(words[1].value), words[2].text, words[3].text)
+
+    @property
+    def crossed(self) -> bool:
+        """Whether a view ended at a crossing."""
+        return any(words and words[0].written == b"crossed" for words in self._lines)
+
+
+class Player:
+    """Runs `labsys`: `program` has the words of its command."""
+
+    def __init__(self, program: Sequence[str]):
+        self.program = list(program)
+        self.plays = 0
+
+    def run(self, words: Sequence[str], text: bytes) -> Tuple[int, bytes, bytes]:
+        """The exit status of a command of `labsys`, its output, and its messages. A status other than 0, 2 and 7 is a fault."""
+        try:
+            done = subprocess.run([*self.program, *words], input=text, stdout=subprocess.PIPE, stderr=subprocess.PIPE, check=False)
+        except OSError as fault:
+            raise PlayingFault(f"{self.program[0]}: {fault.strerror}") from fault
+        self.plays += 1
+        if done.returncode not in ANSWERED:
+            said = done.stderr.decode("latin-1").strip().split("\n")[-1]
+            raise PlayingFault(f"{self.program[0]} ended with status {done.returncode}" + (f": {said}" if said else ""))
+        return done.returncode, done.stdout, done.stderr
+
+    def play(self, text: bytes) -> Played:
+        """Plays a world with its script. A refused text is no fault: `refusal` of the answer has it."""
+        with tempfile.TemporaryDirectory(prefix="labask-") as folder:
+            trail = pathlib.Path(folder) / "trail"
+            status, out, messages = self.run(["play", str(trail)], text)
+            return Played(status, out, trail.read_bytes() if trail.exists() else b"", messages)
+
+    def play_accepted(self, text: bytes) -> Played:
+        """Plays a world with its script, and raises `Refused` where a line is refused or the text is too long."""
+        played = self.play(text)
+        if played.status != STATUS_ACCEPTED:
+            raise Refused(text, played.refusal)
+        return played
+
+    def check(self, text: bytes) -> Optional[Tuple[int, int, int]]:
+        """The numbers of objects, processes and calls of a text that is accepted; raises `Refused` for any other."""
+        status, out, messages = self.run(["check"], text)
+        if status != STATUS_ACCEPTED:
+            raise Refused(text, Played(status, out, b"", messages).refusal)
+        objects, processes, calls = map(int, out.split()[1:4])
+        return objects, processes, calls
+
+    def view(self, label: str, text: bytes) -> Played:
+        """Plays a world with its script as a label sees it; there is no trail."""
+        status, out, messages = self.run(["view", label], text)
+        return Played(status, out, b"", messages)
+
+    def select(self, spec: str, trail: bytes) -> List[Dict[str, Any]]:
+        """The records of a trail that SPEC picks, each as the object that its line of JSON has; raises `Refused` for a fault."""
+        status, out, messages = self.run(["select", spec], trail)
+        if status != STATUS_ACCEPTED:
+            raise Refused(trail, Played(status, out, b"", messages).refusal)
+        return [json.loads(line) for line in out.decode("ascii").split("\n")[:-2]]
+
+
+def candidates(given: Optional[str]) -> Iterator[Optional[str]]:
+    """Where `labsys` may be: as given, as LABSYS has it, beside the folder of this file, or on PATH."""
+    if given:
+        yield given
+        return
+    if os.environ.get("LABSYS"):
+        yield os.environ["LABSYS"]
+        return
+    beside = os.path.join(os.path.dirname(os.path.dirname(os.path.abspath(__file__))), "labsys")
+    yield beside if os.access(beside, os.X_OK) else None
+    yield shutil.which("labsys")
+
+
+def find_program(given: Optional[str] = None) -> str:
+    """The path of `labsys`; raises `PlayingFault` where there is none."""
+    found = next((name for name in candidates(given) if name), None)
+    whole = shutil.which(found) if found else None
+    if whole is None:
+        raise PlayingFault(f"there is no program {found}" if found else "there is no program labsys")
+    return os.path.abspath(whole)

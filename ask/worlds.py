@@ -1,0 +1,367 @@
+"""Worlds and scripts as text: lines, their words with their columns, objects, processes and calls.
+
+Nothing here judges: whether a line is accepted, and what a call does, only `labsys` says. The reader takes every text, and leaves
+out of objects, processes and calls the lines that have not the form of one.
+"""
+import dataclasses
+import enum
+import pathlib
+import re
+import sys
+from dataclasses import dataclass
+from functools import cached_property
+from typing import Dict, Iterable, Iterator, List, Mapping, Optional, Sequence, Tuple
+
+MAX_INPUT = 16_777_216
+MAX_LINE = 2_048
+UTILITIES = {"getfcap": ("cap_get_file", 0), "setfcap": ("cap_set_file", 1), "getfmac": ("mac_get_file", 0),
+             "setfmac": ("mac_set_file", 1)}
+
+
+class WordFault(enum.Enum):
+    """What is wrong with the bytes of a line."""
+    CARRIAGE_RETURN = "carriage return; lines end with a line feed alone"
+    TAB = "tab; words have spaces between them"
+    BYTE = "byte that no word has; between quotes it is written \\x and two hexadecimal digits"
+    QUOTE_IN_WORD = "quote inside a word; a quoted word has spaces around it"
+    BACKSLASH_IN_WORD = "backslash outside quotes"
+    UNCLOSED = "the closing quote is missing"
+    ESCAPE = "escape; expected \\\", \\\\ or \\x and two hexadecimal digits"
+    AFTER_QUOTE = "byte after a closing quote; expected a space or the end of the line"
+
+
+class Kind(enum.Enum):
+    """The kinds of objects that a world has lines for."""
+    DIRECTORY = "dir"
+    FILE = "file"
+    FIFO = "fifo"
+
+
+@dataclass(frozen=True)
+class Word:
+    """A word of a line: as it is written, the bytes that it stands for, and the column of its first byte, from 0."""
+    written: bytes
+    value: bytes
+    column: int
+
+    @property
+    def quoted(self) -> bool:
+        """Whether the word stands between quotes."""
+        return self.written.startswith(b'"')
+
+    @property
+    def text(self) -> str:
+        """The bytes that the word stands for, each as the character of that number."""
+        return self.value.decode("latin-1")
+
+
+@dataclass(frozen=True)
+class MalformedAt:
+    """Where and why a line is no words: the column of the byte at fault, from 0."""
+    column: int
+    fault: WordFault
+
+
+@dataclass(frozen=True)
+class Line:
+    """A line without its line feed; its number counts from 1. `words` has those before the fault, if there is one."""
+    number: int
+    text: bytes
+    words: Tuple[Word, ...]
+    malformed: Optional[MalformedAt]
+    ended: bool
+
+    @property
+    def blank(self) -> bool:
+        """Whether the line is left out: it has no words, or is a comment."""
+        return not self.words and self.malformed is None
+
+
+@dataclass(frozen=True)
+class WorldObject:
+    """A line of an object. `path` is canonical, `number` has the form n@label, and `content` and `caps` are those of a file."""
+    line: int
+    kind: Kind
+    path: bytes
+    mode: int
+    owner: int
+    group: int
+    label: str
+    content: bytes = b""
+    caps: Optional[str] = None
+    number: str = ""
+
+    @property
+    def written(self) -> bytes:
+        """The line in its canonical form, without its line feed; the label and the capability text stand as they are."""
+        words = [self.kind.value, path_word(self.path), f"{self.mode:04o}", str(self.owner), str(self.group), self.label]
+        if self.kind is Kind.FILE:
+            words += [quoted(self.content)] + ([quoted(self.caps.encode("latin-1"))] if self.caps is not None else [])
+        return " ".join(words).encode("ascii")
+
+
+@dataclass(frozen=True)
+class WorldProcess:
+    """A line of a process; its tag has the form n@label."""
+    line: int
+    label: str
+    user: int
+    group: int
+    groups: Tuple[int, ...]
+    caps: str
+    tag: str = ""
+
+    @property
+    def written(self) -> bytes:
+        """The line in its canonical form, without its line feed; the label and the capability text stand as they are."""
+        groups = ",".join(map(str, self.groups)) or "-"
+        words = ["proc", self.label, str(self.user), str(self.group), groups, quoted(self.caps.encode("latin-1"))]
+        return " ".join(words).encode("ascii")
+
+
+@dataclass(frozen=True)
+class ScriptLine:
+    """A line of the script: the canonical tag, the word of the call or utility, its arguments, and the number of its first call."""
+    line: Line
+    tag: str
+    call: str
+    arguments: Tuple[Word, ...]
+    first_call: int
+
+    @property
+    def calls(self) -> int:
+        """How many calls the line makes: one, or of a utility one for each path."""
+        return max(0, len(self.arguments) - UTILITIES[self.call][1]) if self.call in UTILITIES else 1
+
+
+@dataclass(frozen=True)
+class Policy:
+    """The names of labels, each list from the lowest, as the world has them."""
+    levels: Tuple[str, ...] = ()
+    categories: Tuple[str, ...] = ()
+    grades: Tuple[str, ...] = ()
+
+    def canonical(self, label: str) -> str:
+        """The canonical text of a label: categories once and in the world's order, a grade only where it is not the highest."""
+        rest, _, grade = label.partition("/")
+        level, _, names = rest.partition(":")
+        given = set(names.split(",")) if names else set()
+        ordered = [name for name in self.categories if name in given] + sorted(given - set(self.categories))
+        text = level + (":" + ",".join(ordered) if ordered else "")
+        return text + ("/" + grade if grade and grade != (self.grades or ("",))[-1] else "")
+
+    def canonical_tag(self, tag: str) -> str:
+        """The canonical form of n@label; another text stays as it is."""
+        number, at, label = tag.partition("@")
+        return f"{int(number)}@{self.canonical(label)}" if at and number.isdigit() else tag
+
+
+@dataclass(frozen=True)
+class World:
+    """A text that was read: all of its lines, what the lines of the world say, and the calls of the script."""
+    text: bytes
+    lines: Tuple[Line, ...]
+    policy: Policy
+    bound: str
+    objects: Tuple[WorldObject, ...]
+    processes: Tuple[WorldProcess, ...]
+    script_line: Optional[int]
+    script: Tuple[ScriptLine, ...]
+
+    @cached_property
+    def objects_by_path(self) -> Dict[bytes, WorldObject]:
+        """The objects by their canonical paths."""
+        return {each.path: each for each in self.objects}
+
+    @cached_property
+    def objects_by_number(self) -> Dict[str, WorldObject]:
+        """The objects by their numbers n@label."""
+        return {each.number: each for each in self.objects}
+
+    @cached_property
+    def processes_by_tag(self) -> Dict[str, WorldProcess]:
+        """The processes by their tags n@label."""
+        return {each.tag: each for each in self.processes}
+
+    @cached_property
+    def lines_by_call(self) -> Dict[int, ScriptLine]:
+        """The lines of the script by the numbers of their calls, from 1."""
+        return {number: each for each in self.script for number in range(each.first_call, each.first_call + each.calls)}
+
+    def head(self, changed: Optional[Mapping[int, Optional[bytes]]] = None, added: Iterable[bytes] = ()) -> bytes:
+        """The lines up to `script`: `changed` has other texts, or None, for lines by their numbers; `added` stand last."""
+        last = self.script_line or len(self.lines) + 1
+        kept = (line.text if not changed else changed.get(line.number, line.text) for line in self.lines[: last - 1])
+        return b"".join(text + b"\n" for text in (*(text for text in kept if text is not None), *added, b"script"))
+
+    def with_script(self, calls: Iterable[str], changed: Optional[Mapping[int, Optional[bytes]]] = None) -> bytes:
+        """The world with another script, a text for each of its lines, and with changed lines as `head` has them."""
+        return self.head(changed) + b"".join(call.encode("latin-1") + b"\n" for call in calls)
+
+
+BARE = re.compile(rb'[!#-\[\]-~]+')
+ITEM = re.compile(rb'[ !#-\[\]-~]+|\\["\\]|\\x[0-9a-fA-F]{2}')
+
+
+def byte_fault(text: bytes, column: int) -> MalformedAt:
+    """The fault of the byte of a line that no word goes on with."""
+    byte = text[column:column + 1]
+    faults = {b"\r": WordFault.CARRIAGE_RETURN, b"\t": WordFault.TAB, b'"': WordFault.QUOTE_IN_WORD,
+              b"\\": WordFault.BACKSLASH_IN_WORD}
+    return MalformedAt(column, faults.get(byte, WordFault.BYTE))
+
+
+def quoted_word(text: bytes, column: int) -> Tuple[Optional[Word], Optional[MalformedAt]]:
+    """The quoted word that begins at a column, or its fault."""
+    value, at = bytearray(), column + 1
+    while at < len(text) and text[at:at + 1] != b'"':
+        item = ITEM.match(text, at)
+        if not item:
+            fault = MalformedAt(at, WordFault.ESCAPE) if text[at:at + 1] == b"\\" else byte_fault(text, at)
+            return None, fault
+        piece = item[0]
+        value += bytes([int(piece[2:], 16)]) if piece.startswith(b"\\x") else piece[1:] if piece[:1] == b"\\" else piece
+        at = item.end()
+    if at >= len(text):
+        return None, MalformedAt(column, WordFault.UNCLOSED)
+    if text[at + 1:at + 2] not in (b"", b" "):
+        after = byte_fault(text, at + 1)
+        kept = (WordFault.CARRIAGE_RETURN, WordFault.TAB)
+        return None, after if after.fault in kept else MalformedAt(at + 1, WordFault.AFTER_QUOTE)
+    return Word(text[column:at + 1], bytes(value), column), None
+
+
+def split_words(text: bytes) -> Tuple[Tuple[Word, ...], Optional[MalformedAt]]:
+    """The words of a line up to its fault, and the fault, if there is one. A comment has no words."""
+    words: List[Word] = []
+    at = 0
+    while True:
+        while text[at:at + 1] == b" ":
+            at += 1
+        if at >= len(text) or (not words and text[at:at + 1] == b"#"):
+            return tuple(words), None
+        if text[at:at + 1] == b'"':
+            word, fault = quoted_word(text, at)
+        else:
+            bare = BARE.match(text, at)
+            word, fault = (Word(bare[0], bare[0], at), None) if bare else (None, byte_fault(text, at))
+        if word is None:
+            return tuple(words), fault
+        words.append(word)
+        at = word.column + len(word.written)
+        if at < len(text) and text[at:at + 1] != b" ":
+            return tuple(words[:-1]), byte_fault(text, at)
+
+
+def lines_of(text: bytes) -> Iterator[Line]:
+    """The lines of a text, in order; the last one may lack its line feed."""
+    pieces = text.split(b"\n")
+    for index, piece in enumerate(pieces):
+        ended = index + 1 < len(pieces)
+        if ended or piece:
+            yield Line(index + 1, piece, *split_words(piece), ended)
+
+
+def quoted(value: bytes) -> str:
+    """A quoted word for these bytes, in the canonical form."""
+    def item(byte: int) -> str:
+        return "\\" + chr(byte) if byte in b'"\\' else chr(byte) if 0x20 <= byte <= 0x7e else f"\\x{byte:02x}"
+    return '"' + "".join(map(item, value)) + '"'
+
+
+def path_word(path: bytes) -> str:
+    """A word for a path: bare where its bytes may stand in a bare word, and else quoted."""
+    return path.decode("ascii") if BARE.fullmatch(path) else quoted(path)
+
+
+def canonical_path(path: bytes) -> bytes:
+    """An absolute path without empty names and names `.`; a relative one likewise, with `.` for a path without names."""
+    names = [name for name in path.split(b"/") if name not in (b"", b".")]
+    return b"/" + b"/".join(names) if path.startswith(b"/") else b"/".join(names) or b"."
+
+
+def parent_path(path: bytes) -> bytes:
+    """The path of the directory that a canonical absolute path names an entry of; that of the root is the root."""
+    return path.rpartition(b"/")[0] or b"/"
+
+
+def number_of(word: Word, base: int = 10) -> Optional[int]:
+    """The number that a word has, or None."""
+    digits = rb"[0-7]{1,4}" if base == 8 else rb"[0-9]{1,10}"
+    return int(word.value, base) if re.fullmatch(digits, word.value) else None
+
+
+def read_object(line: Line, policy: Policy) -> Optional[WorldObject]:
+    """The object of a line, without its number, or None where the line has not the form of one."""
+    words = line.words
+    kind = next((kind for kind in Kind if kind.value == words[0].text), None)
+    if kind is None or not (7 <= len(words) <= 8 if kind is Kind.FILE else len(words) == 6):
+        return None
+    mode, owner, group = number_of(words[2], 8), number_of(words[3]), number_of(words[4])
+    if mode is None or owner is None or group is None:
+        return None
+    content = words[6].value if kind is Kind.FILE else b""
+    caps = words[7].text if len(words) == 8 else None
+    label = policy.canonical(words[5].text)
+    return WorldObject(line.number, kind, canonical_path(words[1].value), mode, owner, group, label, content, caps)
+
+
+def read_process(line: Line, policy: Policy) -> Optional[WorldProcess]:
+    """The process of a line, without its tag, or None where the line has not the form of one."""
+    words = line.words
+    if words[0].text != "proc" or len(words) != 6:
+        return None
+    user, group = number_of(words[2]), number_of(words[3])
+    if user is None or group is None or not re.fullmatch(rb"-|\d+(,\d+)*", words[4].value):
+        return None
+    groups = () if words[4].value == b"-" else tuple(map(int, words[4].value.split(b",")))
+    return WorldProcess(line.number, policy.canonical(words[1].text), user, group, groups, words[5].text)
+
+
+def read_script(lines: Sequence[Line], policy: Policy) -> Iterator[ScriptLine]:
+    """The calls of the lines after `script`, numbered from 1."""
+    number = 1
+    for line in lines:
+        if len(line.words) >= 2 and line.malformed is None:
+            tag, call = policy.canonical_tag(line.words[0].text), line.words[1].text
+            read = ScriptLine(line, tag, call, line.words[2:], number)
+            number += read.calls
+            yield read
+
+
+def read_names(lines: Sequence[Line]) -> Tuple[Policy, str]:
+    """The names of labels and the bound, from the lines that begin with their keywords; the first of each counts."""
+    found: Dict[str, Tuple[str, ...]] = {}
+    for line in lines:
+        if line.words and line.words[0].text in ("levels", "categories", "grades", "bound"):
+            found.setdefault(line.words[0].text, tuple(word.text for word in line.words[1:]))
+    policy = Policy(*(found.get(name, ()) for name in ("levels", "categories", "grades")))
+    return policy, " ".join(found.get("bound", ()))
+
+
+def read_world(text: bytes) -> World:
+    """Reads a world with or without calls after its line `script`."""
+    lines = tuple(lines_of(text))
+    script_line = next((line.number for line in lines if len(line.words) == 1 and line.words[0].written == b"script"), None)
+    head = lines[: script_line - 1] if script_line else lines
+    policy, bound = read_names(head)
+    drawn: Dict[Tuple[str, str], int] = {}
+
+    def draw(what: str, label: str) -> str:
+        drawn[what, label] = drawn.get((what, label), 0) + 1
+        return f"{drawn[what, label]}@{label}"
+
+    objects, processes = [], []
+    for line in (line for line in head if line.words and line.malformed is None):
+        entry, process = read_object(line, policy), read_process(line, policy)
+        if entry:
+            objects.append(dataclasses.replace(entry, number=draw("object", entry.label)))
+        elif process:
+            processes.append(dataclasses.replace(process, tag=draw("process", process.label)))
+    script = tuple(read_script(lines[script_line:], policy)) if script_line else ()
+    return World(text, lines, policy, bound, tuple(objects), tuple(processes), script_line, script)
+
+
+def read_file(name: str) -> bytes:
+    """The bytes of a file; `-` is standard input."""
+    return sys.stdin.buffer.read() if name == "-" else pathlib.Path(name).read_bytes()
