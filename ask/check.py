@@ -1,9 +1,38 @@
 """The question `check`: whether `labsys` accepts a file, and what is wrong with a line that it has refused."""
 import argparse
-from typing import List, Optional
+from dataclasses import dataclass
+from typing import Dict, Iterator, List, Optional, Set
 
-from playing import Player, Refusal
-from worlds import read_file
+from answers import write_json
+from explaining import explain_line
+from playing import Played, Player, Refusal, Refused, Reply
+from worlds import MAX_INPUT, World, read_file, read_world
+
+ACCEPTED, REFUSED = 0, 2
+WIDTH = 110
+
+
+@dataclass(frozen=True)
+class Explanation:
+    """A refused line: its number, the fault, the text of the line, and the columns of the mark, from 0."""
+    line: int
+    message: str
+    text: bytes
+    column: int
+    length: int
+
+    def lines(self, name: str) -> List[str]:
+        """The explanation as text: the message, the line, and a mark below the word."""
+        head = f"{name}:{self.line}: {self.message}"
+        if not self.text:
+            return [head]
+        begin = max(0, self.column - WIDTH // 2) if len(self.text) > WIDTH else 0
+        before = "... " if begin else ""
+        piece = self.text[begin:begin + WIDTH]
+        after = " ..." if begin + WIDTH < len(self.text) else ""
+        shown = "".join(chr(byte) if 0x20 <= byte <= 0x7e else "?" for byte in piece)
+        mark = "^" * max(1, min(self.length, begin + WIDTH - self.column))
+        return [head, f"  {before}{shown}{after}", " " * (2 + len(before) + self.column - begin) + mark]
 
 
 def add_arguments(parser: argparse.ArgumentParser) -> None:
@@ -11,12 +40,103 @@ def add_arguments(parser: argparse.ArgumentParser) -> None:
     parser.add_argument("file", metavar="FILE", help="the world, with or without a script; - is standard input")
 
 
+def explanation(text: bytes, refusal: Refusal) -> Explanation:
+    """What is wrong with the line of a refusal."""
+    world = read_world(text)
+    finding = explain_line(world, refusal.line, refusal.part, refusal.word)
+    shown = world.lines[refusal.line - 1].text if refusal.line <= len(world.lines) else b""
+    return Explanation(refusal.line, finding.message, shown, finding.column, finding.length)
+
+
 def explain(text: bytes, refusal: Optional[Refusal], name: str) -> List[str]:
-    """Lines that say what is wrong with a refused text."""
-    return [f"{name}: {refusal or 'too long'}"]
+    """Lines that say what is wrong with a refused text; the last one is the refusal of `labsys`."""
+    if refusal is None:
+        return [f"{name}: the input has {len(text):,} bytes; at most {MAX_INPUT:,}", "labsys: too long"]
+    if refusal.line == 0:
+        return [f"labsys: {refusal}"]
+    return [*explanation(text, refusal).lines(name), f"labsys: {refusal}"]
+
+
+def refusal_as_json(text: bytes, refusal: Optional[Refusal]) -> Dict[str, object]:
+    """The answer about a refused text; columns count from 1."""
+    if refusal is None:
+        return {"accepted": False, "message": f"the input has more than {MAX_INPUT} bytes"}
+    found = explanation(text, refusal)
+    return {"accepted": False, "line": refusal.line, "part": refusal.part, "word": refusal.word, "message": found.message,
+            "text": found.text.decode("latin-1"), "column": found.column + 1, "length": found.length}
+
+
+@dataclass(frozen=True)
+class NoProcess:
+    """A reply ESRCH: the call, the process that does not live, and those that live then with numbers of its label."""
+    reply: Reply
+    line: int
+    missing: str
+    living: List[str]
+
+    def text(self, name: str) -> str:
+        """The line of the answer."""
+        label = self.missing.partition("@")[2]
+        there = ", ".join(self.living) if self.living else "none"
+        return f"{name}:{self.line}: ESRCH: {self.missing} is no living process; those of {label} are: {there}"
+
+
+def process_changes(records: List[Dict[str, object]]) -> Dict[int, List[Dict[str, object]]]:
+    """The records of starts, forks and ends by the numbers of their calls."""
+    changes: Dict[int, List[Dict[str, object]]] = {}
+    for record in records:
+        if record["event"] in ("boot", "fork", "exit"):
+            changes.setdefault(int(record["call"]), []).append(record)
+    return changes
+
+
+def apply_change(living: Set[str], record: Dict[str, object]) -> None:
+    """Changes the numbers of living processes as a record says."""
+    if record["event"] == "exit":
+        living.discard(str(record["pid"]))
+    else:
+        living.add(str(record["child"] if record["event"] == "fork" else record["pid"]))
+
+
+def without_process(world: World, played: Played, player: Player) -> Iterator[NoProcess]:
+    """The replies ESRCH of a run, each with the processes that live when the call is made."""
+    if not any(reply.error == "ESRCH" for reply in played.replies):
+        return
+    changes = process_changes(player.select("all", played.trail))
+    living: Set[str] = set()
+    for record in changes.get(0, []):
+        apply_change(living, record)
+    for reply in played.replies:
+        if reply.error == "ESRCH":
+            line = world.lines_by_call[reply.number]
+            named = line.arguments[0].text if reply.call == "kill" and reply.tag in living else reply.tag
+            missing = world.policy.canonical_tag(named)
+            label = missing.partition("@")[2]
+            there = [tag for tag in living if tag.partition("@")[2] == label]
+            yield NoProcess(reply, line.line.number, missing, sorted(there, key=lambda tag: int(tag.partition("@")[0])))
+        for record in changes.get(reply.number, []):
+            apply_change(living, record)
 
 
 def answer(arguments: argparse.Namespace, player: Player) -> int:
     """Answers the question."""
-    print("ok", *player.check(read_file(arguments.file)))
-    return 0
+    text = read_file(arguments.file)
+    try:
+        objects, processes, calls = player.check(text)
+    except Refused as refused:
+        if arguments.json:
+            write_json(refusal_as_json(text, refused.refusal))
+        else:
+            print("\n".join(explain(text, refused.refusal, arguments.file)))
+        return REFUSED
+    world = read_world(text)
+    missing = list(without_process(world, player.play_accepted(text), player)) if calls else []
+    if arguments.json:
+        write_json({"accepted": True, "objects": objects, "processes": processes, "calls": calls,
+                    "no_process": [{"line": each.line, "call": each.reply.number, "process": each.missing, "living": each.living}
+                                   for each in missing]})
+        return ACCEPTED
+    print(f"{arguments.file}: labsys accepts it, with {objects} objects, {processes} processes and {calls} calls")
+    for each in missing:
+        print(each.text(arguments.file))
+    return ACCEPTED
