@@ -1,0 +1,84 @@
+"""Follows a log from its beginning to its end, and writes its script."""
+import collections
+import re
+from typing import Dict, List, Optional
+
+from strace import files, lives, names
+from strace.following import Following, Process
+from strace.log import Call, Ended, Log
+from strace.script import Leave, Reason, Script
+from strace.values import unescaped
+
+HANDLERS = {**files.HANDLERS, **names.HANDLERS, **lives.HANDLERS}
+WITHOUT_RESULT = ("exit", "exit_group")
+DIRECTORY = re.compile(rb"AT_FDCWD<([^>]*)>")
+
+
+def first_process(log: Log) -> Optional[int]:
+    """The number of the process of the first call, or None where there is no call."""
+    return next((event.pid for event in log.events if isinstance(event, Call)), None)
+
+
+def first_directory(log: Log, pid: int) -> Optional[bytes]:
+    """The current directory of a process at its beginning, as far as its calls tell before it changes."""
+    for call in (event for event in log.events if isinstance(event, Call) and event.pid == pid):
+        if call.name in ("chdir", "fchdir") and call.result.done:
+            return None
+        found = DIRECTORY.search(call.text)
+        if found:
+            return unescaped(found[1])
+    return None
+
+
+def ends_of(log: Log) -> Dict[int, List[str]]:
+    """The signals that killed processes, by their numbers."""
+    found: Dict[int, List[str]] = collections.defaultdict(list)
+    for event in log.events:
+        if isinstance(event, Ended) and event.signal is not None:
+            found[event.pid].append(event.signal)
+    return found
+
+
+def begin(following: Following, pid: int, tag: str, start: bytes, umask: Optional[str]) -> None:
+    """Begins with the first process, which is moved to where it starts."""
+    process = Process(tag, directory=start)
+    following.processes[pid] = process
+    if umask is not None:
+        following.script.besides(0, "the umask at the beginning")
+        following.script.play(tag, "umask", umask)
+    path = following.inside(start)
+    if path == b"/":
+        process.in_step = True
+    elif path is not None:
+        place = following.place_of_real(start)
+        following.script.besides(0, "the current directory at the beginning")
+        process.in_step = following.script.play(tag, "chdir", place.word).error is None
+
+
+def follow_call(following: Following, call: Call) -> None:
+    """Follows a call: as a line of the script, or as a comment that says why it is none."""
+    process, handler = following.processes.get(call.pid), HANDLERS.get(call.name)
+    try:
+        if process is None or not process.living:
+            raise Leave(Reason.NO_PROCESS)
+        if handler is None:
+            raise Leave(Reason.NO_CALL)
+        if call.result.number is None and call.name not in WITHOUT_RESULT:
+            raise Leave(Reason.NO_RESULT)
+        handler(following, call, process)
+    except Leave as left:
+        following.script.leave(call, left.reason, left.text)
+    except LookupError:
+        following.script.leave(call, Reason.NO_ARGUMENT, "arguments that are not read")
+
+
+def follow(following: Following, log: Log) -> Script:
+    """Follows a log, and gives its script."""
+    for event in log.events:
+        if isinstance(event, Call):
+            follow_call(following, event)
+        elif isinstance(event, Ended):
+            lives.end(following, event)
+        else:
+            following.script.leave_line(event.line, event.text)
+    return following.script

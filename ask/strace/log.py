@@ -1,0 +1,168 @@
+"""Reads the lines of a log of strace: calls, put together where others came between, and the ends of processes."""
+import re
+from dataclasses import dataclass
+from functools import cached_property
+from typing import Dict, Iterator, List, Optional, Tuple, Union
+
+from strace.values import Argument, split_arguments, unescaped
+
+TIME = rb"(?:\d\d:\d\d:\d\d(?:\.\d+)? +|\d+\.\d+ +|\( *\+ +\d+\.\d+\) +)*"
+PREFIX = re.compile(rb"(?:\[pid +(\d+)\] +|(\d+) +)?" + TIME + rb"(?:\[ *[0-9a-f?]+\] +)*")
+STARTED = re.compile(rb"([a-z_][a-z0-9_]*)\((.*)$", re.S)
+RESUMED = re.compile(rb"<\.\.\. ([a-z_][a-z0-9_]*) resumed> ?(.*)$", re.S)
+UNFINISHED = re.compile(rb" ?<unfinished \.\.\.>(?:\) += \?)?$")
+ENDED = re.compile(rb"\+\+\+ (?:exited with (\d+)|killed by (SIG[A-Z0-9+]+|[A-Z0-9_]+)(?: \(core dumped\))?) \+\+\+$")
+SIGNAL = re.compile(rb"--- .* ---$")
+RESULT = re.compile(rb"\) *= (-?\d+|0x[0-9a-f]+|\?)(?:<(.*?)>)?(?: ([A-Z][A-Z0-9_]*))?(?: \(.*\))?(?: <\d+\.\d+>)?$", re.S)
+CLOSING = re.compile(rb"\) *= ")
+OCTAL = re.compile(rb"0[0-7]+$")
+# calls that wait for what another process does: they count from the line of their result on, all others from their beginning
+WAITING = frozenset(("read", "readv", "pread64", "preadv", "wait4", "waitid", "waitpid", "copy_file_range", "sendfile", "splice"))
+
+
+@dataclass(frozen=True)
+class Result:
+    """What a call returned: a number or None, the path behind it, and the name of the error."""
+    number: Optional[int]
+    path: Optional[bytes] = None
+    error: Optional[str] = None
+
+    @property
+    def done(self) -> bool:
+        """Whether the call was done."""
+        return self.number is not None and self.error is None
+
+
+@dataclass(frozen=True)
+class Call:
+    """A call of the log: the lines of its beginning and of its result, the process, the name, and the text of its arguments."""
+    line: int
+    ended: Optional[int]
+    pid: int
+    name: str
+    text: bytes
+    result: Result
+
+    @cached_property
+    def arguments(self) -> Tuple[Argument, ...]:
+        """The arguments, and after them any that the result adds."""
+        return split_arguments(self.text)
+
+    @property
+    def order(self) -> int:
+        """The line from which on the call counts."""
+        waits = self.name in WAITING or self.result.error == "EPIPE"
+        return self.ended if waits and self.ended is not None else self.line
+
+    @property
+    def shown(self) -> str:
+        """The call as the log has it, in one piece."""
+        return f"{self.name}({self.text.decode('latin-1')}"
+
+
+@dataclass(frozen=True)
+class Ended:
+    """The end of a process or thread: its exit status, or the signal that killed it."""
+    line: int
+    pid: int
+    status: Optional[int]
+    signal: Optional[str]
+
+    @property
+    def order(self) -> int:
+        """The line from which on it counts."""
+        return self.line
+
+
+@dataclass(frozen=True)
+class Other:
+    """A line that is neither."""
+    line: int
+    text: bytes
+
+    @property
+    def order(self) -> int:
+        """The line from which on it counts."""
+        return self.line
+
+
+Event = Union[Call, Ended, Other]
+
+
+@dataclass(frozen=True)
+class Log:
+    """What a log has, in the order in which it counts."""
+    events: Tuple[Event, ...]
+
+    @cached_property
+    def calls_by_line(self) -> Dict[int, Call]:
+        """The calls by the lines of their beginnings."""
+        return {event.line: event for event in self.events if isinstance(event, Call)}
+
+
+def read_result(text: bytes) -> Tuple[bytes, Result]:
+    """The text of arguments without the result, and the result, which stands last. A text without one has none."""
+    wholes = [whole for whole in (RESULT.match(text, found.start()) for found in CLOSING.finditer(text)) if whole]
+    if not wholes:
+        return text, Result(None)
+    digits, path, error = wholes[-1].groups()
+    base = 16 if digits.startswith(b"0x") else 8 if OCTAL.match(digits) else 10
+    value = None if digits == b"?" else int(digits, base)
+    return text[:wholes[-1].start()], Result(value, unescaped(path) if path else None, error.decode("ascii") if error else None)
+
+
+def made(line: int, ended: Optional[int], pid: int, name: bytes, text: bytes) -> Call:
+    """A call of the text that stands behind the name and the bracket."""
+    arguments, result = read_result(text)
+    return Call(line, ended, pid, name.decode("ascii"), arguments, result)
+
+
+@dataclass
+class Reader:
+    """Puts the lines of a log together."""
+    begun: Dict[int, Tuple[int, bytes, bytes]]
+    only: int = 0
+
+    def process_of(self, prefix: "re.Match[bytes]") -> int:
+        """The number of the process that a line is about; lines without one are about the process 0."""
+        return int(prefix[1] or prefix[2] or self.only)
+
+    def read_line(self, number: int, text: bytes) -> Iterator[Event]:
+        """The events that a line ends."""
+        prefix = PREFIX.match(text)
+        pid, rest = self.process_of(prefix), text[prefix.end():]
+        started, resumed, ended = STARTED.match(rest), RESUMED.match(rest), ENDED.match(rest)
+        if started and UNFINISHED.search(rest):
+            yield from self.unfinished(pid)
+            self.begun[pid] = number, started[1], UNFINISHED.sub(b"", started[2])
+        elif started:
+            yield made(number, number, pid, started[1], started[2])
+        elif resumed and pid in self.begun:
+            line, name, text = self.begun.pop(pid)
+            yield made(line, number, pid, name, text + resumed[2])
+        elif ended:
+            yield from self.unfinished(pid)
+            yield Ended(number, pid, int(ended[1]) if ended[1] else None, ended[2].decode() if ended[2] else None)
+        elif rest and not SIGNAL.match(rest):
+            yield Other(number, text)
+
+    def unfinished(self, pid: int) -> Iterator[Event]:
+        """The call of a process that never got a result."""
+        if pid in self.begun:
+            line, name, text = self.begun.pop(pid)
+            yield made(line, None, pid, name, text)
+
+    def rest(self) -> Iterator[Event]:
+        """The calls without a result at the end of the log."""
+        for pid in list(self.begun):
+            yield from self.unfinished(pid)
+
+
+def read_log(text: bytes) -> Log:
+    """Reads a log of `strace -f -y`."""
+    reader = Reader({})
+    events: List[Event] = []
+    for number, line in enumerate(text.split(b"\n"), 1):
+        events.extend(reader.read_line(number, line))
+    events.extend(reader.rest())
+    return Log(tuple(sorted(events, key=lambda event: event.order)))
