@@ -7,6 +7,10 @@ PLAYED = "Every answer was played by labsys."
 NOT_ABSENT = "What was not found is not shown to be absent."
 
 
+class WrongWords(Exception):
+    """A word of the command line names nothing in the file, or has not its form; the message says which."""
+
+
 def write_json(value: Any) -> None:
     """Writes a value as JSON to standard output, with the keys in their order; bytes of paths are characters of these numbers."""
     json.dump(value, sys.stdout, indent=2)

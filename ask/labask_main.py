@@ -10,6 +10,7 @@ import sys
 from dataclasses import dataclass
 from typing import NoReturn, Optional, Sequence
 
+from answers import WrongWords
 from playing import Player, PlayingFault, Refused, find_program
 
 DONE = 0
@@ -98,6 +99,9 @@ def main(words: Optional[Sequence[str]] = None) -> int:
     except PlayingFault as fault:
         print(f"labask: {fault}", file=sys.stderr)
         return NO_PROGRAM
+    except WrongWords as fault:
+        print(f"labask: {fault}", file=sys.stderr)
+        return USAGE
     except BrokenPipeError:
         os.dup2(os.open(os.devnull, os.O_WRONLY), sys.stdout.fileno())
         return DONE

@@ -182,6 +182,86 @@ class Player:
         return [json.loads(line) for line in out.decode("ascii").split("\n")[:-2]]
 
 
+class Session:
+    """A run of `labsys` that is asked call by call: a line is sent, and its replies are read.
+
+    Used as a context; the process ends with it. `replies` counts the calls that were made so far.
+    """
+    BATCH_BYTES = 16_384  # less than a pipe holds, so that sending never waits for replies to be read
+
+    def __init__(self, player: Player, head: bytes):
+        self.player, self.head, self.replies = player, head, 0
+        self._folder = tempfile.TemporaryDirectory(prefix="labask-")
+        self.trail_path = pathlib.Path(self._folder.name) / "trail"
+
+    def __enter__(self) -> "Session":
+        try:
+            self._run = subprocess.Popen([*self.player.program, "play", str(self.trail_path)], stdin=subprocess.PIPE,
+                                         stdout=subprocess.PIPE, stderr=subprocess.DEVNULL)
+        except OSError as fault:
+            self._folder.cleanup()
+            raise PlayingFault(f"{self.player.program[0]}: {fault.strerror}") from fault
+        self.player.plays += 1
+        self._send(self.head)
+        return self
+
+    def __exit__(self, *_: object) -> None:
+        for end in (self._run.stdin, self._run.stdout):
+            try:
+                end.close()
+            except BrokenPipeError:
+                pass
+        self._run.wait()
+        self._folder.cleanup()
+
+    def _send(self, text: bytes) -> None:
+        try:
+            self._run.stdin.write(text)
+            self._run.stdin.flush()
+        except BrokenPipeError as fault:
+            raise PlayingFault(f"{self.player.program[0]} ended before its input") from fault
+
+    def _reply(self) -> Reply:
+        line = self._run.stdout.readline()
+        words = split_words(line.rstrip(b"\n"))[0]
+        if len(words) < 3 or b"@" not in words[0].value:
+            last = Played(STATUS_REFUSED, line, b"", b"")
+            raise Refused(self.head, last.refusal) if last.refusal else PlayingFault("labsys ended before its input")
+        self.replies += 1
+        return read_reply(self.replies, words)
+
+    def line(self, text: str, calls: int = 1) -> List[Reply]:
+        """The replies to a line of the script that makes so many calls."""
+        self._send(text.encode("latin-1") + b"\n")
+        return [self._reply() for _ in range(calls)]
+
+    def call(self, text: str) -> Reply:
+        """The reply to a line that makes one call."""
+        return self.line(text)[0]
+
+    def calls(self, texts: Sequence[str]) -> List[Reply]:
+        """The replies to lines that make one call each; they are sent many at a time."""
+        found: List[Reply] = []
+        batch: List[bytes] = []
+        size = 0
+        for text in texts:
+            line = text.encode("latin-1") + b"\n"
+            if size + len(line) > self.BATCH_BYTES:
+                found += self._batch(batch)
+                batch, size = [], 0
+            batch.append(line)
+            size += len(line)
+        return found + self._batch(batch)
+
+    def _batch(self, lines: Sequence[bytes]) -> List[Reply]:
+        self._send(b"".join(lines))
+        return [self._reply() for _ in lines]
+
+    def records(self) -> List[Dict[str, Any]]:
+        """All records that were written so far, as `select` gives them."""
+        return self.player.select("all", self.trail_path.read_bytes())
+
+
 def candidates(given: Optional[str]) -> Iterator[Optional[str]]:
     """Where `labsys` may be: as given, as LABSYS has it, beside the folder of this file, or on PATH."""
     if given:

@@ -133,6 +133,19 @@ class ScriptLine:
         """How many calls the line makes: one, or of a utility one for each path."""
         return max(0, len(self.arguments) - UTILITIES[self.call][1]) if self.call in UTILITIES else 1
 
+    @property
+    def text(self) -> str:
+        """The line as it is written, without its line feed."""
+        return self.line.text.decode("latin-1")
+
+    def single(self, call: int) -> str:
+        """The line of one of its calls, by the call's number: of a utility that with this path alone."""
+        if self.call not in UTILITIES:
+            return self.text
+        first = UTILITIES[self.call][1]
+        words = [*self.arguments[:first], self.arguments[first + call - self.first_call]]
+        return " ".join([self.tag, self.call, *(word.written.decode("latin-1") for word in words)])
+
 
 @dataclass(frozen=True)
 class Policy:

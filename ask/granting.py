@@ -1,0 +1,214 @@
+"""Tries a denied call again with capabilities that the caller has not: in worlds where the caller is permitted them."""
+from dataclasses import dataclass
+from typing import Any, Dict, FrozenSet, Iterable, List, Optional, Sequence, Set, Tuple
+
+from capability_texts import Sets, read_sets
+from playing import Outcome, Player, Reply, Session
+from signatures import CAPABILITIES
+from worlds import ScriptLine, World, quoted
+
+
+@dataclass(frozen=True)
+class Passing:
+    """The capabilities with which a call is made, and its reply then; `complete` tells that no check denies it then."""
+    capabilities: Tuple[str, ...]
+    reply: Reply
+
+    @property
+    def complete(self) -> bool:
+        """Whether no check denies the call with these capabilities."""
+        return self.reply.outcome is not Outcome.DENIED
+
+
+@dataclass(frozen=True)
+class Lineage:
+    """How a process came to its capability sets: its first ancestor, the files that were executed on the way, and all of them."""
+    ancestor: str
+    files: Tuple[str, ...]
+    processes: FrozenSet[str]
+
+
+def lineage_of(tag: str, records: Sequence[Dict[str, Any]]) -> Lineage:
+    """The lineage of a process, from the records of the run."""
+    parents = {record["child"]: record["pid"] for record in records if record["event"] == "fork"}
+    processes = [tag]
+    while processes[-1] in parents:
+        processes.append(parents[processes[-1]])
+    files = [record["object"] for record in records if record["event"] == "exec" and record["pid"] in processes]
+    return Lineage(processes[-1], tuple(dict.fromkeys(files)), frozenset(processes))
+
+
+def added(caps: Optional[str], names: Iterable[str]) -> str:
+    """A capability text that permits these besides; what is effective in a file stays none or all."""
+    flags = "ep" if caps is not None and read_sets(caps).effective else "p"
+    listed = ",".join(names)
+    return f"{caps} {listed}+{flags}" if caps is not None else f"{listed}=p"
+
+
+def granting_head(world: World, lineage: Lineage, names: Sequence[str]) -> bytes:
+    """The lines of the world up to `script`, changed so that the ancestor and what it executes is permitted these capabilities."""
+    changed: Dict[int, bytes] = {}
+    ancestor = world.processes_by_tag[lineage.ancestor]
+    line = world.lines[ancestor.line - 1]
+    changed[line.number] = with_last_word(line.text, line.words[5].column, f"{ancestor.caps} {','.join(names)}+p")
+    for number in lineage.files:
+        target = world.objects_by_number.get(number)
+        if target is not None:
+            line = world.lines[target.line - 1]
+            column = line.words[7].column if target.caps is not None else len(line.text)
+            changed[line.number] = with_last_word(line.text, column, added(target.caps, names))
+    bound = next(line for line in world.lines if line.words and line.words[0].text == "bound")
+    if lineage.files:
+        kept = "" if world.bound == "none" else world.bound + ","
+        changed[bound.number] = f"bound {kept}{','.join(names)}".encode("ascii")
+    return world.head(changed)
+
+
+def with_last_word(text: bytes, column: int, word: str) -> bytes:
+    """A line whose last word, which begins at a column, is another one between quotes."""
+    return text[:column].rstrip(b" ") + b" " + quoted(word.encode("latin-1")).encode("ascii")
+
+
+def same(one: Reply, other: Reply) -> bool:
+    """Whether two replies have the same outcome."""
+    return (one.outcome, one.error, one.check, one.place) == (other.outcome, other.error, other.check, other.place)
+
+
+class Trial:
+    """A run in which a process is permitted some capabilities besides, up to a call that is then tried."""
+
+    def __init__(self, world: World, player: Player, tag: str, names: Sequence[str], records: Sequence[Dict[str, Any]]):
+        self.world, self.tag, self.names = world, tag, names
+        self.lineage = lineage_of(tag, records)
+        self.session = Session(player, granting_head(world, self.lineage, names))
+        self.session.__enter__()
+        self.reached = 0  # lines of the script that were played
+        self.spent = False
+
+    def close(self) -> None:
+        """Ends the run."""
+        self.session.__exit__(None, None, None)
+
+    def line_text(self, line: ScriptLine) -> str:
+        """A line of the script, where those that set the capability sets of the lineage keep what is permitted besides."""
+        text = line.text
+        if line.call != "cap_set_proc" or line.tag not in self.lineage.processes:
+            return text
+        return f"{line.tag} cap_set_proc {quoted((line.arguments[0].text + ' ' + ','.join(self.names) + '+p').encode('latin-1'))}"
+
+    def advance(self, line: ScriptLine, replies: Sequence[Reply]) -> bool:
+        """Plays the script up to a line; says whether all replies on the way are as in the run itself."""
+        waiting = [each for each in self.world.script[self.reached:] if each.line.number < line.line.number]
+        self.reached += len(waiting)
+        given: List[Reply] = []
+        simple: List[str] = []
+        for each in waiting:
+            if each.calls == 1:
+                simple.append(self.line_text(each))
+                continue
+            given += self.session.calls(simple)
+            given += self.session.line(self.line_text(each), each.calls)
+            simple = []
+        given += self.session.calls(simple)
+        due = replies[waiting[0].first_call - 1:] if waiting else []
+        return all(same(one, other) for one, other in zip(given, due))
+
+    def raised(self, sets: Sets, names: Iterable[str]) -> bool:
+        """Makes these capabilities effective besides those of the sets; says whether that was done."""
+        asked = Sets(sets.effective | frozenset(names), sets.inheritable, sets.permitted)
+        return self.session.call(f'{self.tag} cap_set_proc "{asked.written}"').outcome is Outcome.DONE
+
+    def attempt(self, text: str) -> Reply:
+        """The reply to the call; a call that is not denied may change the run, which is spent then."""
+        reply = self.session.call(text)
+        self.spent = self.spent or reply.outcome is not Outcome.DENIED
+        return reply
+
+    def passing(self, text: str, denied: Reply) -> Optional[Passing]:
+        """Capabilities with which the call passes the check, and then as many of the checks after it as any capability does."""
+        asked = self.session.call(f"{self.tag} cap_get_proc")
+        if asked.outcome is not Outcome.DONE:
+            return None
+        sets = read_sets(asked.words[0].text)
+        best: Optional[Passing] = None
+        held: Tuple[str, ...] = ()
+        last = denied
+        while True:
+            step = self.step(sets, held, text, last)
+            if step is None:
+                break
+            best, held, last = step, step.capabilities, step.reply
+            if step.complete:
+                return step
+        if not self.spent:
+            self.raised(sets, ())
+        return best
+
+    def step(self, sets: Sets, held: Tuple[str, ...], text: str, last: Reply) -> Optional[Passing]:
+        """One more capability with which the call is answered otherwise than last; None where there is none."""
+        for name in self.names:
+            if name in sets.effective or name in held or name not in sets.permitted or not self.raised(sets, (*held, name)):
+                continue
+            reply = self.attempt(text)
+            if not same(reply, last):
+                return Passing((*held, name), reply)
+        return None
+
+
+class Trials:
+    """The trials of a run: for each process one at a time, made anew where the last one is spent."""
+    MOST = 6
+
+    def __init__(self, world: World, player: Player, replies: Sequence[Reply], trail: bytes):
+        self.world, self.player, self.replies = world, player, replies
+        self.records = [record for record in player.select("all", trail) if record["event"] in ("fork", "exec")]
+        self.open: Dict[str, Trial] = {}
+
+    def close(self) -> None:
+        """Ends all trials."""
+        for each in self.open.values():
+            each.close()
+        self.open.clear()
+
+    def trial(self, line: ScriptLine) -> Trial:
+        """A trial for the caller of a line that has not gone past it."""
+        found = self.open.pop(line.tag, None)
+        if found is not None and (found.spent or found.reached > self.world.script.index(line)):
+            found.close()
+            found = None
+        if found is None:
+            found = Trial(self.world, self.player, line.tag, CAPABILITIES, self.records)
+        while len(self.open) >= self.MOST:
+            self.open.pop(next(iter(self.open))).close()
+        self.open[line.tag] = found
+        return found
+
+    def passing(self, line: ScriptLine, denied: Reply) -> Optional[Passing]:
+        """The capabilities that would have let a denied call pass, found by trying; None where none was found."""
+        text = line.single(denied.number)
+        trial = self.trial(line)
+        trial.spent = line.calls > 1  # the line is played in part
+        if trial.advance(line, self.replies) and self.before(trial, line, denied):
+            return trial.passing(text, denied)
+        trial.spent = True
+        for name in CAPABILITIES:
+            alone = Trial(self.world, self.player, line.tag, (name,), self.records)
+            try:
+                found = self.alone(alone, line, denied, text)
+            finally:
+                alone.close()
+            if found:
+                return found
+        return None
+
+    def before(self, trial: Trial, line: ScriptLine, denied: Reply) -> bool:
+        """Plays the calls of a utility before the denied one; says whether they are answered as in the run itself."""
+        texts = [line.single(reply.number) for reply in self.replies[line.first_call - 1:denied.number - 1]]
+        given = trial.session.calls(texts)
+        return all(same(one, other) for one, other in zip(given, self.replies[line.first_call - 1:]))
+
+    def alone(self, trial: Trial, line: ScriptLine, denied: Reply, text: str) -> Optional[Passing]:
+        """As `passing`, by a trial of one capability."""
+        if trial.advance(line, self.replies) and self.before(trial, line, denied):
+            return trial.passing(text, denied)
+        return None
