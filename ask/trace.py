@@ -3,12 +3,11 @@ import argparse
 import os
 import re
 import sys
-from typing import List, Optional
+from typing import Optional
 
 from answers import write_json
-from playing import Player
-from strace.conversation import Conversation
-from strace.follow import begin, first_directory, first_process, ends_of, follow
+from playing import Player, Session
+from strace.follow import begin, ends_of, first_directory, first_process, follow
 from strace.following import Following
 from strace.log import Log, read_log
 from strace.script import Script
@@ -76,8 +75,11 @@ def trace(world: World, log: Log, arguments: argparse.Namespace, player: Player)
     if pid is None:
         raise TraceFault("the log has no call")
     start = os.path.realpath(os.fsencode(arguments.start)) if arguments.start else None
-    with Conversation(player.program, world.text) as conversation:
-        script = Script(conversation)
+    player.check(world.text)
+    with Session(player, world.head()) as session:
+        for line in world.script:
+            session.line(line.line.text.decode("latin-1"), line.calls)
+        script = Script(session)
         following = make_following(script, world, root, log)
         begin(following, pid, tag, start or first_directory(log, pid) or root, arguments.umask)
         follow(following, log)

@@ -96,6 +96,8 @@ def add_arguments(parser: argparse.ArgumentParser) -> None:
     parser.add_argument("file", metavar="FILE", help="the world with its script")
     parser.add_argument("call", metavar="N", nargs="?", type=int,
                         help="the number of a call, from 1; by default each call that was denied or refused")
+    parser.add_argument("--against", metavar="LOG", help="the log of strace of which `labask trace` made the script: says instead "
+                        "which replies differ from those in it")
 
 
 class Asker:
@@ -199,6 +201,10 @@ def answer(arguments: argparse.Namespace, player: Player) -> int:
     text = read_file(arguments.file)
     played = player.play_accepted(text)
     world = read_world(text)
+    if arguments.against is not None:
+        import against
+
+        return against.answer(arguments, player, world, played)
     if arguments.call is not None and not 1 <= arguments.call <= len(played.replies):
         raise WrongWords(f"the script has {len(played.replies)} calls; there is no call {arguments.call}")
     found = list(explain_all(world, played, player, arguments.call))

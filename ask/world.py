@@ -10,7 +10,7 @@ from typing import Dict, List, Optional, Tuple
 from answers import write_json
 from directories import Entry, LeftOut, Note, Reading, SecondName, Unfit, note_text, read_tree
 from file_caps import SPLIT, own_sets
-from labels import LabelFault, LabelMap, read_labels
+from label_maps import LabelFault, LabelMap, read_labels
 from pieces import LINE_BYTES, piece_length, pieces
 from playing import Outcome, Player, Refused
 from worlds import Kind, path_word, quoted, read_world

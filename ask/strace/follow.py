@@ -3,13 +3,13 @@ import collections
 import re
 from typing import Dict, List, Optional
 
-from strace import files, lives, names
+from strace import attributes, files, lives, names
 from strace.following import Following, Process
 from strace.log import Call, Ended, Log
 from strace.script import Leave, Reason, Script
 from strace.values import unescaped
 
-HANDLERS = {**files.HANDLERS, **names.HANDLERS, **lives.HANDLERS}
+HANDLERS = {**files.HANDLERS, **names.HANDLERS, **attributes.HANDLERS, **lives.HANDLERS}
 WITHOUT_RESULT = ("exit", "exit_group")
 DIRECTORY = re.compile(rb"AT_FDCWD<([^>]*)>")
 

@@ -5,8 +5,7 @@ from dataclasses import dataclass, field
 from typing import List
 
 from pieces import LINE_BYTES
-from playing import Reply
-from strace.conversation import Conversation
+from playing import Reply, Session
 from strace.log import Call
 
 SHOWN = 160
@@ -45,7 +44,7 @@ def shown(call: Call) -> str:
 @dataclass
 class Script:
     """The lines that are written, and what was played and left out."""
-    conversation: Conversation
+    session: Session
     lines: List[bytes] = field(default_factory=list)
     played: int = 0
     added: int = 0
@@ -59,9 +58,9 @@ class Script:
 
     def play(self, tag: str, *words: str) -> Reply:
         """Writes a line, and gives its reply."""
-        line = " ".join((tag, *words)).encode("ascii")
-        self.lines.append(line)
-        return self.conversation.play(line)
+        line = " ".join((tag, *words))
+        self.lines.append(line.encode("ascii"))
+        return self.session.call(line)
 
     def call(self, call: Call) -> None:
         """Begins the lines that are a call of the log."""
