@@ -57,7 +57,7 @@ def compare_all(world: World, log: Log, replies: Sequence[Reply]) -> List[Compar
 
 def explanations(world: World, played: Played, player: Player, compared: Sequence[Comparison]) -> Dict[int, Any]:
     """What `why` says of the calls that a check denied here alone, by their numbers."""
-    from why import Asker, renumbered
+    from why import Asker
 
     numbers = {each.reply.number for each in compared if each.verdict is Verdict.DENIED}
     found: Dict[int, Any] = {}
@@ -67,9 +67,9 @@ def explanations(world: World, played: Played, player: Player, compared: Sequenc
     try:
         with Observed(world, player) as observed:
             for line in world.script:
-                for number, reply in enumerate(observed.play(line), line.first_call):
-                    if number in numbers:
-                        found[number] = asker.explain(observed, line, renumbered(reply, number))
+                for reply in observed.play(line):
+                    if reply.number in numbers:
+                        found[reply.number] = asker.explain(observed, line, reply)
     except NoObserver:
         pass
     finally:
@@ -91,7 +91,8 @@ def lines_of(compared: Sequence[Comparison], explained: Dict[int, Any]) -> Itera
         for each in (each for each in compared if each.verdict is verdict):
             yield f"{verdict.value}, line {each.call.line} of the log: {shown(each.call)}"
             more = explained.get(each.reply.number)
-            text = list(more.lines()) if more else [f"call {each.reply.number}: {each.reply.tag} {each.reply.call}: {each.reply.text}"]
+            reply = each.reply
+            text = list(more.lines()) if more else [f"call {reply.number}: {reply.tag} {reply.call}: {reply.text}"]
             yield from (f"  {line}" for line in (text if verdict is Verdict.DENIED else [text[0], f"  {each.text}"]))
     yield f"{len(compared)} calls of the log were played"
     yield from (f"  {count} {what}" for what, count in counts(compared).items())

@@ -112,7 +112,8 @@ def read_caps(reading: Reading, path: bytes) -> Tuple[Optional[Sets], List[Note]
     except UnknownVersion as fault:
         return None, [Note(path, LeftOut.CAPABILITIES, f"an unknown version of the attribute {ATTRIBUTE}: {fault}")]
     if attribute.root not in (0, reading.root_user):
-        return None, [Note(path, LeftOut.CAPABILITIES, f"{attribute.sets.text} counts only where the user {attribute.root} is root")]
+        text = f"{attribute.sets.text} counts only where the user {attribute.root} is root"
+        return None, [Note(path, LeftOut.CAPABILITIES, text)]
     notes = []
     if attribute.sets.left_out:
         notes.append(Note(path, LeftOut.CAPABILITIES, f"the profile does not have {','.join(attribute.sets.left_out)}"))
@@ -148,7 +149,8 @@ def read_object(reading: Reading, path: bytes, status: os.stat_result) -> Iterat
         notes += more
     if status.st_mode & stat.S_ISVTX:
         notes.append(Note(path, LeftOut.STICKY_BIT))
-    notes += [Note(path, LeftOut.ACCESS_LIST, name) for name in ACCESS_LISTS if attribute_of(reading.real(path), name) is not None]
+    lists = [name for name in ACCESS_LISTS if attribute_of(reading.real(path), name) is not None]
+    notes += [Note(path, LeftOut.ACCESS_LIST, name) for name in lists]
     yield from notes
     yield Entry(path, kind, status.st_mode & MODE, status.st_uid, status.st_gid, status.st_size, content, caps)
 

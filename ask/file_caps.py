@@ -6,9 +6,9 @@ from typing import Dict, FrozenSet, Iterable, List, Optional, Tuple
 
 ATTRIBUTE = "security.capability"
 PROFILE = (
-    "cap_chown", "cap_dac_execute", "cap_dac_read_search", "cap_dac_write", "cap_fowner", "cap_fsetid", "cap_kill", "cap_link_dir",
-    "cap_setfcap", "cap_setgid", "cap_setuid", "cap_mac_downgrade", "cap_mac_read", "cap_mac_relabel_subj", "cap_mac_upgrade",
-    "cap_mac_write", "cap_audit_control", "cap_audit_write",
+    "cap_chown", "cap_dac_execute", "cap_dac_read_search", "cap_dac_write", "cap_fowner", "cap_fsetid", "cap_kill",
+    "cap_link_dir", "cap_setfcap", "cap_setgid", "cap_setuid", "cap_mac_downgrade", "cap_mac_read", "cap_mac_relabel_subj",
+    "cap_mac_upgrade", "cap_mac_write", "cap_audit_control", "cap_audit_write",
 )
 LINUX = (
     "cap_chown", "cap_dac_override", "cap_dac_read_search", "cap_fowner", "cap_fsetid", "cap_kill", "cap_setgid", "cap_setuid",

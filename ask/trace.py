@@ -30,7 +30,8 @@ def add_arguments(parser: argparse.ArgumentParser) -> None:
     parser.add_argument("log", metavar="LOG", help="the log of `strace -f -y`")
     parser.add_argument("--directory", metavar="DIR", help="the directory that is the root of the world; else the one that a "
                         "comment of the world names")
-    parser.add_argument("--as", metavar="TAG", dest="tag", help="the process that the log begins with; the first of the world by default")
+    parser.add_argument("--as", metavar="TAG", dest="tag",
+                        help="the process that the log begins with; the first of the world by default")
     parser.add_argument("--start", metavar="DIR", help="the current directory at the beginning, where the log does not tell; the "
                         "root of the world by default")
     parser.add_argument("--umask", metavar="MODE", type=read_mode, help="the umask at the beginning; 0022 by default")

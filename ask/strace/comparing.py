@@ -56,6 +56,7 @@ RENAME_FAULTS = "`rename` with two faults"
 NO_NAME = "paths without a name, such as `/` and `.`"
 ORPHAN = "a process whose parent has ended"
 SPLIT_RIGHTS = "one right by the mode, another by `cap_dac_read_search`"
+NO_PARENT = "a process that the world begins with has no parent"
 CONTENT = "content that the world does not have"
 NAMES = "names of what no world has"
 PIPE_STATUS = "size and link count of a pipe or FIFO"
@@ -96,7 +97,7 @@ KNOWN: Dict[Tuple[str, str, str], str] = {
 
 def known_texts() -> Tuple[str, ...]:
     """What the known differences are called, each once."""
-    named = (*KNOWN.values(), ORDER, DIRECTORY_SIZE, ORPHAN, CONTENT, NAMES, PIPE_STATUS)
+    named = (*KNOWN.values(), ORDER, DIRECTORY_SIZE, ORPHAN, NO_PARENT, CONTENT, NAMES, PIPE_STATUS)
     return tuple(dict.fromkeys(named))
 
 
@@ -223,8 +224,6 @@ def compare_wait(call: Call, reply: Reply, tags: Dict[int, str]) -> None:
 def compare_process(call: Call, reply: Reply, tags: Dict[int, str]) -> None:
     """Compares the number of a process, where the log has told which that is."""
     here, due = reply.words[0].text, tags.get(call.result.number)
-    if here == "none":
-        raise Differs(Verdict.KNOWN, ORPHAN)
     if due is not None and here != due:
         raise Differs(Verdict.OTHER, f"{here}, and the log means {due}")
 
@@ -248,7 +247,7 @@ def compare_values(call: Call, replies: Sequence[Reply], tags: Dict[int, str]) -
     for reply in replies:
         if call.name == "getppid":
             if reply.words[0].text == "none":
-                raise Differs(Verdict.KNOWN, ORPHAN)
+                raise Differs(Verdict.KNOWN, NO_PARENT if next(iter(tags.values())) == reply.tag else ORPHAN)
         elif reply.call in VALUES:
             VALUES[reply.call](call, reply, tags)
 

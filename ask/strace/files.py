@@ -120,10 +120,13 @@ def close_range(following: Following, call: Call, process: Process) -> None:
     first, last = number(call.arguments[0]), number(call.arguments[1])
     if not call.result.done or "CLOSE_RANGE_CLOEXEC" in call.arguments[2].flags:
         raise Leave(Reason.NO_ARGUMENT)
-    due = [each for each in sorted(process.descriptors) if first <= each <= last]
+    closed = [process.descriptors.pop(each) for each in sorted(process.descriptors) if first <= each <= last]
+    due = [held.played for held in closed if held.played is not None]
+    if not due:
+        raise Leave(Reason.FOLLOWED, "no descriptor of the world")
+    following.script.call(call)
     for each in due:
-        following.close(process, each, call.line, f"close_range closes {each}")
-    raise Leave(Reason.FOLLOWED, f"{len(due)} descriptors of the world")
+        following.script.play(process.tag, "close", str(each))
 
 
 def asked(held: Descriptor, call: Call, count: int) -> str:
@@ -165,7 +168,8 @@ def gathered(call: Call) -> Tuple[bytes, int]:
         return given_bytes(call.arguments[1], min(count, asks))
     value, lacking = b"", 0
     for item in call.arguments[1].fields.values():
-        piece, missing = given_bytes(item.fields.get("iov_base", item), min(count - len(value), item.fields["iov_len"].number or 0))
+        length = min(count - len(value), item.fields["iov_len"].number or 0)
+        piece, missing = given_bytes(item.fields.get("iov_base", item), length)
         value, lacking = value + piece, lacking + missing
     return value, lacking
 
@@ -255,7 +259,8 @@ def copy(following: Following, call: Call, process: Process) -> None:
     following.script.call(call)
     content = STAND_IN * call.result.number
     if taken is not None:
-        reply = following.script.play(process.tag, "read", str(taken.played), asked(taken, call, number(call.arguments[4 if ranged else 3])))
+        count = asked(taken, call, number(call.arguments[4 if ranged else 3]))
+        reply = following.script.play(process.tag, "read", str(taken.played), count)
         content = reply.words[0].value if reply.outcome is Outcome.DONE else b""
     else:
         following.script.made_up += len(content)

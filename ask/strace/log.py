@@ -1,8 +1,8 @@
 """Reads the lines of a log of strace: calls, put together where others came between, and the ends of processes."""
 import re
-from dataclasses import dataclass
+from dataclasses import dataclass, field, replace
 from functools import cached_property
-from typing import Dict, Iterator, List, Optional, Tuple, Union
+from typing import Dict, Iterator, List, Optional, Set, Tuple, Union
 
 from strace.values import Argument, split_arguments, unescaped
 
@@ -12,6 +12,7 @@ STARTED = re.compile(rb"([a-z_][a-z0-9_]*)\((.*)$", re.S)
 RESUMED = re.compile(rb"<\.\.\. ([a-z_][a-z0-9_]*) resumed> ?(.*)$", re.S)
 UNFINISHED = re.compile(rb" ?<unfinished \.\.\.>(?:\) += \?)?$")
 ENDED = re.compile(rb"\+\+\+ (?:exited with (\d+)|killed by (SIG[A-Z0-9+]+|[A-Z0-9_]+)(?: \(core dumped\))?) \+\+\+$")
+ATTACHED = re.compile(rb"^strace: Process (\d+) attached$")
 SIGNAL = re.compile(rb"--- .* ---$")
 RESULT = re.compile(rb"\) *= (-?\d+|0x[0-9a-f]+|\?)(?:<(.*?)>)?(?: ([A-Z][A-Z0-9_]*))?(?: \(.*\))?(?: <\d+\.\d+>)?$", re.S)
 CLOSING = re.compile(rb"\) *= ")
@@ -119,16 +120,29 @@ def made(line: int, ended: Optional[int], pid: int, name: bytes, text: bytes) ->
 
 @dataclass
 class Reader:
-    """Puts the lines of a log together."""
-    begun: Dict[int, Tuple[int, bytes, bytes]]
-    only: int = 0
+    """Puts the lines of a log together. The first process is 0 where its lines have no number, until `first` is known."""
+    begun: Dict[int, Tuple[int, bytes, bytes]] = field(default_factory=dict)
+    living: Set[int] = field(default_factory=lambda: {0})
+    unnamed: bool = False
+    first: Optional[int] = None
 
     def process_of(self, prefix: "re.Match[bytes]") -> int:
-        """The number of the process that a line is about; lines without one are about the process 0."""
-        return int(prefix[1] or prefix[2] or self.only)
+        """The number of the process that a line is about. Where one process is left its lines have no number."""
+        written = prefix[1] or prefix[2]
+        if written is None:
+            self.unnamed = True
+            return next(iter(self.living)) if len(self.living) == 1 else 0
+        pid = int(written)
+        if self.unnamed and self.first is None and pid not in self.living:
+            self.first = pid
+        return 0 if pid == self.first else pid
 
     def read_line(self, number: int, text: bytes) -> Iterator[Event]:
         """The events that a line ends."""
+        attached = ATTACHED.search(text)
+        if attached:
+            self.living.add(int(attached[1]))
+            return
         prefix = PREFIX.match(text)
         pid, rest = self.process_of(prefix), text[prefix.end():]
         started, resumed, ended = STARTED.match(rest), RESUMED.match(rest), ENDED.match(rest)
@@ -142,6 +156,7 @@ class Reader:
             yield made(line, number, pid, name, text + resumed[2])
         elif ended:
             yield from self.unfinished(pid)
+            self.living.discard(pid)
             yield Ended(number, pid, int(ended[1]) if ended[1] else None, ended[2].decode() if ended[2] else None)
         elif rest and not SIGNAL.match(rest):
             yield Other(number, text)
@@ -160,9 +175,11 @@ class Reader:
 
 def read_log(text: bytes) -> Log:
     """Reads a log of `strace -f -y`."""
-    reader = Reader({})
+    reader = Reader()
     events: List[Event] = []
     for number, line in enumerate(text.split(b"\n"), 1):
         events.extend(reader.read_line(number, line))
     events.extend(reader.rest())
+    if reader.first is not None:
+        events = [replace(event, pid=reader.first) if getattr(event, "pid", None) == 0 else event for event in events]
     return Log(tuple(sorted(events, key=lambda event: event.order)))

@@ -37,7 +37,7 @@ def shown(call: Call) -> str:
     """A call and its result, cut where that is long."""
     text = call.shown if len(call.shown) <= SHOWN else call.shown[:SHOWN] + "..."
     result = call.result
-    value = "?" if result.number is None else f"0{result.number:o}" if call.name == "umask" else str(result.number)
+    value = "?" if result.number is None else f"{result.number:03o}" if call.name == "umask" else str(result.number)
     return f"{text}) = {value}" + (f" {result.error}" if result.error else "")
 
 
@@ -59,6 +59,8 @@ class Script:
     def play(self, tag: str, *words: str) -> Reply:
         """Writes a line, and gives its reply."""
         line = " ".join((tag, *words))
+        if len(line) > LINE_BYTES:
+            raise Leave(Reason.NO_ARGUMENT, "a line that is too long")
         self.lines.append(line.encode("ascii"))
         return self.session.call(line)
 

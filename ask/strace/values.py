@@ -107,6 +107,11 @@ class Argument:
         return found
 
 
+def opens_path(previous: bytes, following: bytes, angles: int) -> bool:
+    """Whether a `<` begins the path of a descriptor: behind its number, and not as the first half of `<<`."""
+    return following != b"<" and (angles > 0 or previous[-1:].isdigit() or previous.endswith(b"AT_FDCWD"))
+
+
 def split_arguments(text: bytes) -> Tuple[Argument, ...]:
     """The arguments of a text, at its commas outside of brackets, strings and paths of descriptors."""
     found: List[Argument] = []
@@ -114,7 +119,7 @@ def split_arguments(text: bytes) -> Tuple[Argument, ...]:
     angles = 0
     for token in TOKEN.finditer(text):
         piece = token[0]
-        if piece == b"<" and (angles or previous[-1:].isdigit() or previous.endswith(b"AT_FDCWD")) and text[token.end():token.end() + 1] != b"<":
+        if piece == b"<" and opens_path(previous, text[token.end():token.end() + 1], angles):
             angles += 1
         elif piece == b">" and angles:
             angles -= 1

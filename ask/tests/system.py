@@ -1,0 +1,86 @@
+"""What the tests of trees and traces share: programs that are run, trees that are made, and strace."""
+import os
+import pathlib
+import shutil
+import subprocess
+import sys
+
+HERE = pathlib.Path(__file__).resolve().parent
+LABASK = HERE.parent / "labask"
+USER = 1000
+PLAIN = {"PATH": "/usr/local/bin:/usr/bin:/bin:/usr/sbin:/sbin", "LC_ALL": "C", "HOME": "/"}
+
+sys.path.insert(0, str(HERE.parent))
+
+
+def program():
+    """The program `labsys`."""
+    return os.environ["LABSYS"]
+
+
+def labask(*words, given=b"", status=0):
+    """The output and the messages of `labask`, which is to end with this status."""
+    done = subprocess.run([sys.executable, str(LABASK), *map(os.fspath, words)], input=given, stdout=subprocess.PIPE,
+                          stderr=subprocess.PIPE, check=False)
+    if done.returncode != status:
+        said = done.stderr.decode()
+        raise AssertionError(f"labask {' '.join(map(str, words))}: status {done.returncode}, not {status}: {said}")
+    return done.stdout, done.stderr.decode()
+
+
+def play(text):
+    """The lines that `labsys play` writes for a text that it accepts."""
+    done = subprocess.run([program(), "play", os.devnull], input=text, stdout=subprocess.PIPE, check=False)
+    if done.returncode != 0:
+        raise AssertionError(f"labsys play: status {done.returncode}: {done.stdout.splitlines()[-1:]}")
+    return done.stdout.split(b"\n")[:-1]
+
+
+def root():
+    """Whether this test may change owners and capabilities."""
+    return os.geteuid() == 0
+
+
+def installed(name, package):
+    """The path of a program, which is installed from its Debian package where that is allowed; None where there is none."""
+    if shutil.which(name) is None and root() and shutil.which("apt-get"):
+        environment = {**os.environ, "DEBIAN_FRONTEND": "noninteractive"}
+        for words in (["update"], ["install", "-y", "--no-install-recommends", package]):
+            try:
+                subprocess.run(["apt-get", "-q", *words], env=environment, stdout=subprocess.DEVNULL, stderr=subprocess.DEVNULL,
+                               check=False, timeout=180)
+            except subprocess.TimeoutExpired:
+                break
+    return shutil.which(name)
+
+
+def strace():
+    """The path of strace where it can trace here, and else None."""
+    found = installed("strace", "strace")
+    if found is None:
+        return None
+    tried = subprocess.run([found, "-f", "-o", os.devnull, "true"], stderr=subprocess.DEVNULL, check=False)
+    return found if tried.returncode == 0 else None
+
+
+def as_user():
+    """What a child does before its program where this test is root: it becomes a user without privilege."""
+    if root():
+        os.setgroups([USER])
+        os.setgid(USER)
+        os.setuid(USER)
+    os.umask(0o022)
+
+
+def give(tree):
+    """Gives a tree to the user without privilege, where this test is root."""
+    if root():
+        os.chown(tree, USER, USER)
+        for folder, names, files in os.walk(tree):
+            for name in names + files:
+                os.lchown(os.path.join(folder, name), USER, USER)
+
+
+def own_ids():
+    """The user and the group that `as_user` leaves."""
+    return (USER, USER, str(USER)) if root() else (os.getuid(), os.getgid(), ",".join(map(str, os.getgroups()[:16])) or "-")

@@ -1,0 +1,219 @@
+#!/usr/bin/env python3
+"""Logs written by hand: which lines of the script each call of a log becomes, and what is left out, in each form of a log."""
+import pathlib
+import re
+import tempfile
+
+from system import labask
+
+from strace.values import Argument, split_arguments
+from worlds import read_world
+
+WORLD = b"""\
+# root "/srv/site"
+world 2
+levels base
+categories
+bound all
+dir / 0777 0 0 base
+dir /d 0777 0 0 base
+file /a 0755 7 7 base "hello"
+proc base 7 7 - "="
+proc base 8 8 - "="
+script
+2@base getpid
+"""
+# each line of a log with the lines of the script that it becomes, and for those that are left out why
+LOG = [
+    ('100 execve("/usr/bin/x", ["x"], 0x7ffd /* 3 vars */) = 0', "outside of the directory"),
+    ('100 openat(AT_FDCWD</srv/site>, "a", O_RDONLY|O_CLOEXEC) = 3</srv/site/a>', ["1@base open a r"]),
+    ('100 pread64(3</srv/site/a>, "ell", 3, 1) = 3',
+     ["1@base lseek 0 cur 0", "1@base lseek 0 set 1", "1@base read 0 3", "1@base lseek 0 set 0"]),
+    ('100 readv(3</srv/site/a>, [{iov_base="he", iov_len=2}, {iov_base="llo", iov_len=10}], 2) = 5', ["1@base read 0 12"]),
+    ('100 open("link/../a", O_RDWR) = 4</srv/site/a>', ["1@base open /a rw"]),
+    ('100 write(4</srv/site/a>, "a) = \\"\\303"..., 8) = 8', ['1@base write 1 "a) = \\"\\xc3?"']),
+    ('100 dup2(4</srv/site/a>, 3</srv/site/a>) = 3</srv/site/a>', ["1@base close 0", "1@base dup 1"]),
+    ('100 fcntl(3</srv/site/a>, F_SETFD, FD_CLOEXEC) = 0', "followed without a call"),
+    ('100 fcntl(3</srv/site/a>, F_GETFD) = 0x1 (flags FD_CLOEXEC)', "no call of the profile"),
+    ('100 clone(child_stack=NULL, flags=SIGCHLD <unfinished ...>', ["1@base fork"]),
+    ('101 getppid( <unfinished ...>', ["3@base getppid"]),
+    ('100 <... clone resumed>, child_tidptr=0x7f) = 101', []),
+    ('101 <... getppid resumed>) = 100', []),
+    ('101 execve("a", ["a"], 0x7f /* 0 vars */) = 0', ["3@base exec a", "3@base close 0"]),
+    ('101 chdir("d") = 0', ["3@base chdir d"]),
+    ('101 mkdir("e", 0700) = 0', ["3@base mkdir e 0700"]),
+    ('101 chdir("/usr") = 0', "outside of the directory"),
+    ('101 mkdirat(AT_FDCWD</usr>, "../srv/site/d/g", 01755) = 0', ["3@base mkdir /d/g 0755"]),
+    ('101 unlinkat(AT_FDCWD</usr>, "/srv/site/d/g", AT_REMOVEDIR) = 0', ["3@base rmdir /d/g"]),
+    ('101 mkdir("g", 0700) = -1 EACCES (Permission denied)', "outside of the directory"),
+    ('101 kill(100, SIGUSR1) = 0', ["3@base kill 1@base 0"]),
+    ('101 exit_group(258) = ?', ["3@base exit 2"]),
+    ('101 +++ exited with 2 +++', []),
+    ('100 --- SIGCHLD {si_signo=SIGCHLD, si_code=CLD_EXITED, si_pid=101, si_uid=7, si_status=2, si_utime=0, si_stime=0} ---', []),
+    ('100 wait4(-1, [{WIFEXITED(s) && WEXITSTATUS(s) == 2}], 0, NULL) = 101', ["1@base wait"]),
+    ('100 vfork( <unfinished ...>', ["1@base fork"]),
+    ('102 tgkill(102, 102, SIGABRT) = 0', "no call of the profile"),
+    ('102 +++ killed by SIGABRT (core dumped) +++', ["4@base kill 4@base KILL"]),
+    ('100 <... vfork resumed>) = 102', []),
+    ('100 clone3({flags=CLONE_VM|CLONE_THREAD, exit_signal=0, stack=0x7f} => {parent_tid=[103]}, 88) = 103',
+     "followed without a call"),
+    ('103 umask(077) = 022', ["1@base umask 0077"]),
+    ('103 exit(0) = ?', "followed without a call"),
+    ('103 +++ exited with 0 +++', []),
+    ('100 lseek(4</srv/site/a>, 0, SEEK_DATA) = 0', ["1@base lseek 1 set 0"]),
+    ('100 sendfile(1</dev/pts/0>, 4</srv/site/a>, NULL, 4096) = 8', ["1@base read 1 4096"]),
+    ('100 setresuid(-1, 7, -1) = 0', "with what the profile's call does not have"),
+    ('100 setresuid(7, 7, 7) = 0', ["1@base setuid 7"]),
+    ('100 renameat2(AT_FDCWD</srv/site>, "a", AT_FDCWD</srv/site>, "b", RENAME_EXCHANGE) = -1 ENOENT (No such file or directory)',
+     "with what the profile's call does not have"),
+    ('100 mknodat(AT_FDCWD</srv/site>, "q \\"\\n", S_IFIFO|0640) = 0', ['1@base mkfifo "q \\"\\x0a" 0640']),
+    ('100 chown("a", -1, 7) = 0', ["1@base stat a", "1@base chown a 7 7"]),
+    ('100 fsetxattr(4</srv/site/a>, "system.posix_acl_access", "\\2\\0\\0\\0\\1\\0\\6\\0\\377\\377\\377\\377\\4\\0\\4\\0'
+     '\\377\\377\\377\\377 \\0\\0\\0\\377\\377\\377\\377", 28, 0) = 0', ["1@base stat /a", "1@base chmod /a 0640"]),
+    ('100 close_range(3, 4294967295, 0) = 0', ["1@base close 0", "1@base close 1"]),
+    ('100 close(4</srv/site/a>) = -1 EBADF (Bad file descriptor)', "of a descriptor that is not open here"),
+    ('100 lstat("l", {st_mode=S_IFLNK|0777, st_size=1, ...}) = 0', "about what no world has"),
+    ('strace: Process 104 attached', []),
+    ('something that a program wrote', "no line of a call"),
+    ('200 getpid() = 200', "of a process that is not here"),
+    ('100 openat(AT_FDCWD</srv/site>, "s", O_RDONLY) = 3</srv/site/d>', ["1@base open /d r", "1@base readdir /d"]),
+    ('100 newfstatat(3</srv/site/d>, "e", {st_mode=S_IFDIR|0700, st_size=4096, ...}, 0) = 0', ["1@base stat /d/e"]),
+    ('100 newfstatat(3</srv/site/d>, "", {st_mode=S_IFDIR|0777, st_size=4096, ...}, AT_EMPTY_PATH) = 0', ["1@base stat /d"]),
+    ('100 getdents64(3</srv/site/d>, 0x7f /* 3 entries */, 32768) = 72', ["1@base readdir /d"]),
+    ('100 getdents64(3</srv/site/d>, 0x7f /* 0 entries */, 32768) = 0', "followed without a call"),
+    ('100 fchdir(3</srv/site/d>) = 0', ["1@base chdir /d"]),
+    ('100 rmdir("./e/") = 0', ["1@base rmdir e"]),
+    ('100 pipe2([4<pipe:[5]>, 5<pipe:[5]>], O_CLOEXEC) = 0', ["1@base pipe"]),
+    ('100 write(5<pipe:[5]>, "xy", 2) = 2', ['1@base write 1 "xy"']),
+    ('100 read(4<pipe:[5]>, "xy", 4096) = 2', ["1@base read 0 2"]),
+    ('100 read(4<pipe:[5]>, 0x7f, 4096) = ? ERESTARTSYS (To be restarted if SA_RESTART is set)', "without a result in the log"),
+    ('100 exit_group(0) = ?', ["1@base exit 0"]),
+    ('100 +++ exited with 0 +++', []),
+]
+checked = 0
+
+
+def equal(here, due, what):
+    """Fails where two values differ."""
+    global checked
+    checked += 1
+    if here != due:
+        raise AssertionError(f"{what}: {here!r}, not {due!r}")
+
+
+def traced(folder, lines, *options):
+    """The lines of the script of a log, by the line of the log that their comment names, and why others are left out."""
+    (folder / "world").write_bytes(WORLD)
+    (folder / "log").write_text("".join(line + "\n" for line in lines), encoding="latin-1")
+    run = read_world(labask("trace", folder / "world", folder / "log", *options)[0])
+    played, left_out, current = {}, {}, None
+    for line in run.lines[run.script_line + 1:]:
+        found = re.match(rb"# (\d+)(?:: |, besides: |, left out, ([^(:]*?)(?: \(.*?\))?: )", line.text)
+        if found and found[2]:
+            left_out[int(found[1])] = found[2].decode()
+        elif found:
+            current = int(found[1])
+        elif line.words:
+            played.setdefault(current, []).append(line.text.decode())
+    return played, left_out, run.text
+
+
+def judge(lines, folder, what):
+    """Fails where a line of the log becomes other lines of the script than those that are due."""
+    played, left_out, _ = traced(folder, lines)
+    for number, (line, due) in enumerate(LOG, 1):
+        found = played.get(number, []), left_out.get(number, "")
+        equal(found, (due, "") if isinstance(due, list) else ([], due), f"{what}: {line}")
+
+
+def check_forms(folder):
+    """The forms of a log: as it is, with times before and after the calls, and with numbers of processes in brackets."""
+    lines = [line for line, due in LOG]
+    judge(lines, folder, "plain")
+    timed = [re.sub(r"^(\d+) ", r"\1 22:16:42.123456 ", line) for line in lines]
+    judge([line + " <0.000012>" if re.search(r"\) += [^(]*(\(.*\))?$", line) else line for line in timed], folder, "timed")
+    judge([re.sub(r"^(\d+) ", r"[pid   \1] ", line) for line in lines], folder, "bracketed")
+
+
+def check_alone(folder):
+    """A log of one process has no numbers."""
+    played, _, _ = traced(folder, ['mkdir("x", 0777)                  = 0', "+++ exited with 3 +++"])
+    equal(played, {1: ["1@base mkdir x 0777"], 2: ["1@base exit 3"]}, "one process")
+
+
+def check_terminal(folder):
+    """A log as it goes to a terminal: the first process has a number only beside others."""
+    lines = ['getpid() = 100', 'fork( <unfinished ...>', 'strace: Process 101 attached', '[pid   101] getppid( <unfinished ...>',
+             '[pid   100] <... fork resumed>) = 101', '[pid   101] <... getppid resumed>) = 100', '[pid   101] kill(100, 0) = 0',
+             '[pid   100] exit_group(4) = ?', '[pid   100] +++ exited with 4 +++', 'mkdir("x", 0700) = 0', 'exit_group(0) = ?']
+    due = {1: ["1@base getpid"], 2: ["1@base fork"], 4: ["3@base getppid"], 7: ["3@base kill 1@base 0"], 8: ["1@base exit 4"],
+           10: ["3@base mkdir x 0700"], 11: ["3@base exit 0"]}
+    equal(traced(folder, lines)[0], due, "a terminal")
+
+
+def check_summary(folder):
+    """What is left out is counted at the end."""
+    _, left_out, text = traced(folder, [line for line, due in LOG])
+    for reason in set(left_out.values()):
+        count = sum(reason == each for each in left_out.values())
+        equal(f"# {count} left out, {reason}\n".encode() in text, True, reason)
+    equal(b"# no call of the profile: fcntl 1, tgkill 1\n" in text, True, "names of calls")
+    equal(b"# 1 bytes that the log does not have are written as ?\n" in text, True, "bytes that are made up")
+
+
+def check_options(folder):
+    """The process, its directory and its umask at the beginning, and the root of the world."""
+    line = '7 mkdir("x", 0777) = 0'
+    played, _, _ = traced(folder, [line], "--as", "2@base", "--umask", "077", "--start", "/srv/site/d")
+    equal(played, {0: ["2@base umask 0077", "2@base chdir /d"], 1: ["2@base mkdir x 0777"]}, "options")
+    played, left_out, _ = traced(folder, [line], "--start", "/srv/other")
+    equal((played, left_out), ({}, {1: "outside of the directory"}), "another directory")
+    played, _, _ = traced(folder, ['7 mkdir("/srv/other/x", 0777) = 0'], "--directory", "/srv/other")
+    equal(played, {1: ["1@base mkdir /x 0777"]}, "another root")
+    opened = '7 openat(AT_FDCWD</srv/site/d>, "f", O_WRONLY|O_CREAT|O_APPEND, 0666) = 3</srv/site/d/f>'
+    due = {0: ["1@base chdir /d"], 1: ["1@base mkdir x 0777"], 2: ["1@base open f wca 0666"]}
+    equal(traced(folder, [line, opened])[0], due, "the directory that the log tells")
+
+
+def check_faults(folder):
+    """Wrong command lines, and worlds that are refused."""
+    for options in (("--as", "9@base"), ("--umask", "8")):
+        labask("trace", folder / "world", folder / "log", *options, status=1)
+    (folder / "log").write_bytes(b"nothing\n")
+    labask("trace", folder / "world", folder / "log", status=1)
+    (folder / "world").write_bytes(WORLD.replace(b'# root "/srv/site"\n', b""))
+    labask("trace", folder / "world", folder / "log", status=1)
+    (folder / "log").write_bytes(b'7 mkdir("x", 0777) = 0\n')
+    (folder / "world").write_bytes(WORLD.replace(b"dir /d", b"dir d"))
+    labask("trace", folder / "world", folder / "log", status=2)
+    labask("trace", folder / "none", folder / "log", status=1)
+
+
+def check_values():
+    """Readings of arguments."""
+    equal([each.written for each in split_arguments(b'3</a,b>, "x, \\"y", {a=1, b=[2, 3]}, 1<<3|4')],
+          [b"3</a,b>", b'"x, \\"y"', b"{a=1, b=[2, 3]}", b"1<<3|4"], "arguments")
+    equal(Argument(b'"\\1\\12\\1234\\x41\\n\\\\"...').string.value, b"\x01\n\x534A\n\\", "a string")
+    equal(Argument(b'"a"...').string.whole, False, "a string that was cut")
+    equal((Argument(b"8192*1024").number, Argument(b"-1").number, Argument(b"0x1f").number, Argument(b"022").number),
+          (8388608, -1, 31, 18), "numbers")
+    handle = Argument(b"3</a\\74b\\76 (deleted)>").handle
+    equal((handle.number, handle.path), (3, b"/a<b>"), "a descriptor")
+    equal(Argument(b"S_IFREG|S_ISUID|0755").bits, 0o4755, "a mode")
+
+
+def main():
+    with tempfile.TemporaryDirectory(prefix="labask-") as name:
+        folder = pathlib.Path(name)
+        check_values()
+        check_forms(folder)
+        check_alone(folder)
+        check_terminal(folder)
+        check_summary(folder)
+        check_options(folder)
+        check_faults(folder)
+    print(f"{len(LOG)} lines of a log in 3 forms; {checked} comparisons")
+
+
+if __name__ == "__main__":
+    main()
