@@ -96,6 +96,8 @@ def lines_of(compared: Sequence[Comparison], explained: Dict[int, Any]) -> Itera
             yield from (f"  {line}" for line in (text if verdict is Verdict.DENIED else [text[0], f"  {each.text}"]))
     yield f"{len(compared)} calls of the log were played"
     yield from (f"  {count} {what}" for what, count in counts(compared).items())
+    if any(each.verdict is Verdict.DENIED for each in compared):
+        yield "Behind a denial the script goes on as the log does; the program itself may do something else."
 
 
 def as_json(compared: Sequence[Comparison], explained: Dict[int, Any]) -> Dict[str, Any]:

@@ -3,9 +3,10 @@ import argparse
 import os
 import re
 import sys
-from typing import Optional
+from typing import Optional, Set
 
 from answers import write_json
+from directories import OTHERS
 from playing import Player, Session
 from strace.follow import begin, ends_of, first_directory, first_process, follow
 from strace.following import Following
@@ -18,6 +19,7 @@ USAGE = 1
 REFUSED = 2
 INPUT_BYTES = 16777216
 ROOT = re.compile(rb"# root (\".*\")$")
+LEFT_OUT = re.compile(rb"# left out: (?:" + b"|".join(what.value.encode("ascii") for what in OTHERS.values()) + rb") (.*)$")
 
 
 class TraceFault(Exception):
@@ -64,10 +66,17 @@ def tag_of(world: World, given: Optional[str]) -> str:
     return tag
 
 
+def absent_paths(world: World) -> Set[bytes]:
+    """The paths of symbolic links, devices and sockets, which comments of the world name as left out."""
+    found = (LEFT_OUT.match(line.text) for line in world.lines)
+    words = (split_words(each[1])[0] for each in found if each)
+    return {each[0].value for each in words if len(each) == 1}
+
+
 def make_following(script: Script, world: World, root: bytes, log: Log) -> Following:
     """What is followed, at the beginning."""
     fifos = {each.path for each in world.objects if each.kind is Kind.FIFO}
-    return Following(script, root, fifos, ends_of(log))
+    return Following(script, root, fifos, absent_paths(world), ends_of(log))
 
 
 def trace(world: World, log: Log, arguments: argparse.Namespace, player: Player) -> Script:

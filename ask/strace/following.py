@@ -8,7 +8,7 @@ from playing import Outcome, Reply
 from strace.log import Call
 from strace.script import Leave, Reason, Script
 from strace.values import WORKING, Argument, Handle
-from worlds import path_word
+from worlds import parent_path, path_word
 
 
 @dataclass(frozen=True)
@@ -66,10 +66,12 @@ def names_of(path: bytes) -> List[bytes]:
 
 @dataclass
 class Following:
-    """The state of what is followed: the script, the root of the world as a path of the system, and the processes by number."""
+    """What is followed: the root of the world as a path of the system, the paths in the world of FIFOs and of what it does not
+    have (`absent`), the signals that ended processes of the log, and the processes by their numbers."""
     script: Script
     root: bytes
     fifos: Set[bytes]
+    absent: Set[bytes]
     ends: Dict[int, List[str]]
     processes: Dict[int, Process] = field(default_factory=dict)
 
@@ -86,7 +88,17 @@ class Following:
         why = unfit_path(path)
         if why:
             raise Leave(Reason.NO_OBJECT, why)
+        if self.absent:
+            self.leave_absent(path)
         return Place(path_word(path), path, b"/" + b"/".join(names_of(real)))
+
+    def leave_absent(self, path: bytes) -> None:
+        """Leaves a call out whose path leads to or through what the world does not have."""
+        beginning = path
+        while beginning != b"/":
+            if beginning in self.absent:
+                raise Leave(Reason.NO_OBJECT, f"{path_word(beginning)} is left out of the world", path)
+            beginning = parent_path(beginning)
 
     def place(self, process: Process, base: Optional[Handle], path: bytes) -> Place:
         """The place of a path from a directory; relative paths stay so where the current directory is in step."""

@@ -23,10 +23,11 @@ WAITING = frozenset(("read", "readv", "pread64", "preadv", "wait4", "waitid", "w
 
 @dataclass(frozen=True)
 class Result:
-    """What a call returned: a number or None, the path behind it, and the name of the error."""
+    """What a call returned: a number or None, the path behind it, the name of the error, and the number as it is written."""
     number: Optional[int]
     path: Optional[bytes] = None
     error: Optional[str] = None
+    written: str = "?"
 
     @property
     def done(self) -> bool:
@@ -109,7 +110,8 @@ def read_result(text: bytes) -> Tuple[bytes, Result]:
     digits, path, error = wholes[-1].groups()
     base = 16 if digits.startswith(b"0x") else 8 if OCTAL.match(digits) else 10
     value = None if digits == b"?" else int(digits, base)
-    return text[:wholes[-1].start()], Result(value, unescaped(path) if path else None, error.decode("ascii") if error else None)
+    real, name = unescaped(path) if path else None, error.decode("ascii") if error else None
+    return text[:wholes[-1].start()], Result(value, real, name, digits.decode("ascii"))
 
 
 def made(line: int, ended: Optional[int], pid: int, name: bytes, text: bytes) -> Call:

@@ -58,7 +58,12 @@ def mknod(following: Following, call: Call, process: Process) -> None:
 
 def unlink(following: Following, call: Call, process: Process) -> None:
     """`unlink`, `rmdir` and `unlinkat`."""
-    place, index = place_at(following, call, process, call.name == "unlinkat")
+    try:
+        place, index = place_at(following, call, process, call.name == "unlinkat")
+    except Leave as left:
+        if call.result.done and left.path is not None:
+            following.absent.discard(left.path)
+        raise
     directory = call.name == "rmdir" or (index < len(call.arguments) and "AT_REMOVEDIR" in call.arguments[index].flags)
     following.script.call(call)
     following.script.play(process.tag, "rmdir" if directory else "unlink", place.word)
@@ -78,6 +83,16 @@ def link(following: Following, call: Call, process: Process) -> None:
         raise Leave(Reason.NO_ARGUMENT)
     following.script.call(call)
     following.script.play(process.tag, "link", first.word, second.word)
+
+
+def symlink(following: Following, call: Call, process: Process) -> None:
+    """`symlink` and `symlinkat`: from then on something is there that the world does not have."""
+    at = call.name == "symlinkat"
+    base = call.arguments[1].handle if at else None
+    place = following.place(process, base, needed(call.arguments[2 if at else 1]))
+    if call.result.done:
+        following.absent.add(place.path)
+    raise Leave(Reason.NO_OBJECT, "a symbolic link")
 
 
 def rename(following: Following, call: Call, process: Process) -> None:
@@ -160,7 +175,7 @@ def umask(following: Following, call: Call, process: Process) -> None:
 
 HANDLERS: Dict[str, Handler] = {
     "stat": stat, "lstat": stat, "newfstatat": stat, "statx": stat, "mkdir": mkdir, "mkdirat": mkdir, "mknod": mknod,
-    "mknodat": mknod, "unlink": unlink, "rmdir": unlink, "unlinkat": unlink, "link": link, "linkat": link, "rename": rename,
-    "renameat": rename, "renameat2": rename, "chmod": chmod, "fchmod": chmod, "fchmodat": chmod, "fchmodat2": chmod,
-    "chown": chown, "lchown": chown, "fchown": chown, "fchownat": chown, "chdir": chdir, "fchdir": chdir, "umask": umask,
+    "mknodat": mknod, "symlink": symlink, "symlinkat": symlink, "unlink": unlink, "rmdir": unlink, "unlinkat": unlink,
+    "link": link, "linkat": link, "rename": rename, "renameat": rename, "renameat2": rename, "chmod": chmod, "fchmod": chmod,
+    "fchmodat": chmod, "fchmodat2": chmod, "chown": chown, "lchown": chown, "fchown": chown, "fchownat": chown, "chdir": chdir, "fchdir": chdir, "umask": umask,
 }

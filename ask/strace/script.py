@@ -2,7 +2,7 @@
 import collections
 import enum
 from dataclasses import dataclass, field
-from typing import List
+from typing import List, Optional
 
 from pieces import LINE_BYTES
 from playing import Reply, Session
@@ -25,20 +25,19 @@ class Reason(enum.Enum):
 
 
 class Leave(Exception):
-    """A call is left out: why, and what more there is to say of it."""
+    """A call is left out: why, what more there is to say of it, and the path in the world of what no world has."""
 
-    def __init__(self, reason: Reason, text: str = ""):
+    def __init__(self, reason: Reason, text: str = "", path: Optional[bytes] = None):
         super().__init__(reason.value)
         self.reason = reason
         self.text = text
+        self.path = path
 
 
 def shown(call: Call) -> str:
     """A call and its result, cut where that is long."""
     text = call.shown if len(call.shown) <= SHOWN else call.shown[:SHOWN] + "..."
-    result = call.result
-    value = "?" if result.number is None else f"{result.number:03o}" if call.name == "umask" else str(result.number)
-    return f"{text}) = {value}" + (f" {result.error}" if result.error else "")
+    return f"{text}) = {call.result.written}" + (f" {call.result.error}" if call.result.error else "")
 
 
 @dataclass

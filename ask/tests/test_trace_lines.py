@@ -17,6 +17,8 @@ categories
 bound all
 dir / 0777 0 0 base
 dir /d 0777 0 0 base
+# left out: symbolic link /s
+# left out: symbolic link "/a link"
 file /a 0755 7 7 base "hello"
 proc base 7 7 - "="
 proc base 8 8 - "="
@@ -77,6 +79,12 @@ LOG = [
     ('something that a program wrote', "no line of a call"),
     ('200 getpid() = 200', "of a process that is not here"),
     ('100 openat(AT_FDCWD</srv/site>, "s", O_RDONLY) = 3</srv/site/d>', ["1@base open /d r", "1@base readdir /d"]),
+    ('100 stat("s/e", {st_mode=S_IFDIR|0700, st_size=4096, ...}) = 0', "about what no world has"),
+    ('100 readlink("a link", "d", 4096) = 1', "no call of the profile"),
+    ('100 unlink("a link") = 0', "about what no world has"),
+    ('100 mkdir("a link", 0700) = 0', ['1@base mkdir "a link" 0700']),
+    ('100 symlink("d", "t") = 0', "about what no world has"),
+    ('100 chmod("t/e", 0755) = 0', "about what no world has"),
     ('100 newfstatat(3</srv/site/d>, "e", {st_mode=S_IFDIR|0700, st_size=4096, ...}, 0) = 0', ["1@base stat /d/e"]),
     ('100 newfstatat(3</srv/site/d>, "", {st_mode=S_IFDIR|0777, st_size=4096, ...}, AT_EMPTY_PATH) = 0', ["1@base stat /d"]),
     ('100 getdents64(3</srv/site/d>, 0x7f /* 3 entries */, 32768) = 72', ["1@base readdir /d"]),
@@ -157,7 +165,7 @@ def check_summary(folder):
     for reason in set(left_out.values()):
         count = sum(reason == each for each in left_out.values())
         equal(f"# {count} left out, {reason}\n".encode() in text, True, reason)
-    equal(b"# no call of the profile: fcntl 1, tgkill 1\n" in text, True, "names of calls")
+    equal(b"# no call of the profile: fcntl 1, tgkill 1, readlink 1\n" in text, True, "names of calls")
     equal(b"# 1 bytes that the log does not have are written as ?\n" in text, True, "bytes that are made up")
 
 
