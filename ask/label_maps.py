@@ -2,7 +2,7 @@
 from dataclasses import dataclass, field
 from typing import Dict, List, Tuple
 
-from worlds import Line, canonical_path, lines_of, parent_path, read_file
+from worlds import Line, canonical_path, parent_path, read_file, read_world
 
 LOWEST_ALONE = ("world 2", "levels base", "categories", "bound all")
 NAMES = ("levels", "categories", "grades", "bound")
@@ -50,7 +50,7 @@ def read_labels(name: str) -> LabelMap:
     policy: Dict[str, Tuple[str, str]] = {}
     labels: Dict[bytes, str] = {}
     named_at: Dict[bytes, str] = {}
-    for line in lines_of(read_file(name)):
+    for line in read_world(read_file(name)).lines:
         at = f"{name}:{line.number}"
         words: List[str] = [word.text for word in line.words]
         if line.malformed is not None:

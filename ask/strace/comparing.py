@@ -122,7 +122,7 @@ def compare_status(call: Call, reply: Reply, tags: Dict[int, str]) -> None:
     if "mode" in fields:
         kinds = next((kinds for name, kinds in KINDS.items() if name in fields["mode"].flags), ())
         if kind not in kinds:
-            raise Differs(Verdict.OTHER, f"a {kind}, and {fields['mode'].written.decode()} in the log")
+            raise Differs(Verdict.OTHER, f"a {kind}, and {fields['mode'].text} in the log")
         same_mode(int(mode, 8), fields["mode"])
     there = {name: fields[name].number for name in ("uid", "gid", "size", "nlink") if name in fields}
     for name, here in zip(("uid", "gid", "size", "nlink"), map(int, numbers)):
@@ -193,9 +193,9 @@ def compare_ids(call: Call, reply: Reply, tags: Dict[int, str]) -> None:
         same_number("groups", 0 if words[6] == "-" else words[6].count(",") + 1, call.result.number)
     else:
         first = 0 if call.name == "getresuid" else 3
-        there = [re.sub(rb"[\[\]]", b"", each.written) for each in call.arguments[:3]]
-        if [word.encode() for word in words[first:first + 3]] != there:
-            raise Differs(Verdict.OTHER, f"ids {' '.join(words[first:first + 3])}, and {b' '.join(there).decode()} in the log")
+        there = [each.text.strip("[]") for each in call.arguments[:3]]
+        if words[first:first + 3] != there:
+            raise Differs(Verdict.OTHER, f"ids {' '.join(words[first:first + 3])}, and {' '.join(there)} in the log")
 
 
 def compare_names(call: Call, reply: Reply, tags: Dict[int, str]) -> None:

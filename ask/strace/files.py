@@ -133,7 +133,7 @@ def asked(held: Descriptor, call: Call, count: int) -> str:
     """How many bytes a read asks for: of a pipe as many as the log got, since others may have written more meanwhile."""
     if held.pipe and call.result.done and call.result.number:
         count = call.result.number
-    return str(min(count, READ_BYTES))
+    return str(max(0, min(count, READ_BYTES)))
 
 
 def counted(call: Call) -> int:
@@ -236,7 +236,7 @@ SEEKS = {"SEEK_SET": "set", "SEEK_CUR": "cur", "SEEK_END": "end"}
 def lseek(following: Following, call: Call, process: Process) -> None:
     """`lseek`; a search for data or a hole moves to where the log says that it led."""
     held = following.descriptor(process, call.arguments[0])
-    whence, offset = call.arguments[2].written.decode("ascii"), number(call.arguments[1])
+    whence, offset = call.arguments[2].text, number(call.arguments[1])
     if whence not in SEEKS and call.result.done:
         whence, offset = "SEEK_SET", call.result.number
     if whence not in SEEKS or abs(offset) > NUMBER:
@@ -304,7 +304,7 @@ def dup_to(following: Following, call: Call, process: Process) -> None:
 
 def control(following: Following, call: Call, process: Process) -> None:
     """`fcntl`: of its commands those that duplicate, and the flag that closes at `execve`."""
-    command = call.arguments[1].written.decode("ascii", "replace")
+    command = call.arguments[1].text
     if command in ("F_DUPFD", "F_DUPFD_CLOEXEC"):
         duplicate(following, call, process, command.endswith("CLOEXEC"))
         return

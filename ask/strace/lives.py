@@ -91,7 +91,7 @@ def number_after(text: bytes, pattern: bytes) -> int:
 
 def kill(following: Following, call: Call, process: Process) -> None:
     """`kill` of one process: the signal where it ended the process, and else the question whether it may be sent."""
-    pid, signal = number(call.arguments[0]), call.arguments[1].written.decode("ascii", "replace")
+    pid, signal = number(call.arguments[0]), call.arguments[1].text
     target = following.processes.get(pid)
     if pid <= 0 or target is None:
         raise Leave(Reason.NO_PROCESS if pid > 0 else Reason.NO_ARGUMENT)

@@ -3,7 +3,7 @@ from typing import Dict, Optional, Tuple
 
 from playing import Outcome
 from strace.files import Handler, status
-from strace.following import Following, Place, Process, base_and_path, mode_of, needed, number
+from strace.following import Following, Place, Process, base_and_path, mode_of, needed, number, number_in
 from strace.log import Call
 from strace.script import Leave, Reason
 from strace.values import Argument
@@ -122,15 +122,17 @@ def chown(following: Following, call: Call, process: Process) -> None:
         place, index = following.place_of_descriptor(process, call.arguments[0]), 1 if call.name == "fchown" else 2
     else:
         place, index = place_at(following, call, process, call.name == "fchownat")
-    ids = [number(each) for each in call.arguments[index:index + 2]]
+    ids = [number(each) & SAME for each in call.arguments[index:index + 2]]
     words = [str(each) for each in ids]
-    if any(each in (-1, SAME) for each in ids):
+    if len(ids) != 2:
+        raise Leave(Reason.NO_ARGUMENT)
+    if SAME in ids:
         following.script.besides(call.line, "the owner and the group that stay")
         reply = following.script.play(process.tag, "stat", place.word)
         if reply.outcome is not Outcome.DONE:
             raise Leave(Reason.NO_ARGUMENT, "an owner or group that is not known here")
         kept = [word.text for word in reply.words[2:4]]
-        words = [old if each in (-1, SAME) else str(each) for old, each in zip(kept, ids)]
+        words = [old if each == SAME else str(each) for old, each in zip(kept, ids)]
     following.script.call(call)
     following.script.play(process.tag, "chown", place.word, *words)
 
@@ -166,6 +168,20 @@ def outside_directory(following: Following, call: Call, process: Process) -> Opt
     return path.value if path.value.startswith(b"/") else process.directory and process.directory + b"/" + path.value
 
 
+def truncate(following: Following, call: Call, process: Process) -> None:
+    """`truncate` and `ftruncate` to no bytes: the file is opened and emptied. No call of the profile cuts a file elsewhere."""
+    if number(call.arguments[1]) != 0:
+        raise Leave(Reason.NO_CALL)
+    if call.name == "ftruncate":
+        place = following.place_of_descriptor(process, call.arguments[0])
+    else:
+        place, _ = place_at(following, call, process, False)
+    following.script.call(call)
+    opened = number_in(following.script.play(process.tag, "open", place.word, "wt"))
+    if opened is not None:
+        following.script.play(process.tag, "close", str(opened))
+
+
 def umask(following: Following, call: Call, process: Process) -> None:
     """`umask`."""
     mode = number(call.arguments[0])
@@ -178,4 +194,5 @@ HANDLERS: Dict[str, Handler] = {
     "mknodat": mknod, "symlink": symlink, "symlinkat": symlink, "unlink": unlink, "rmdir": unlink, "unlinkat": unlink,
     "link": link, "linkat": link, "rename": rename, "renameat": rename, "renameat2": rename, "chmod": chmod, "fchmod": chmod,
     "fchmodat": chmod, "fchmodat2": chmod, "chown": chown, "lchown": chown, "fchown": chown, "fchownat": chown, "chdir": chdir, "fchdir": chdir, "umask": umask,
+    "truncate": truncate, "ftruncate": truncate,
 }

@@ -44,6 +44,11 @@ class Argument:
     written: bytes
 
     @property
+    def text(self) -> str:
+        """The argument as text."""
+        return self.written.decode("latin-1")
+
+    @property
     def string(self) -> Optional[Text]:
         """The string, or None where it is none, such as NULL."""
         found = STRING.match(self.written)
@@ -79,7 +84,7 @@ class Argument:
     def flags(self) -> FrozenSet[str]:
         """The names of flags, without comments."""
         text = re.sub(rb"/\*.*?\*/", b"", self.written)
-        return frozenset(part.decode("ascii", "replace").strip() for part in text.split(b"|"))
+        return frozenset(part.decode("latin-1").strip() for part in text.split(b"|"))
 
     @property
     def bits(self) -> Optional[int]:

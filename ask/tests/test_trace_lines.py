@@ -62,6 +62,8 @@ LOG = [
     ('103 umask(077) = 022', ["1@base umask 0077"]),
     ('103 exit(0) = ?', "followed without a call"),
     ('103 +++ exited with 0 +++', []),
+    ('100 ftruncate(4</srv/site/a>, 3) = 0', "no call of the profile"),
+    ('100 ftruncate(4</srv/site/a>, 0) = 0', ["1@base open /a wt", "1@base close 2"]),
     ('100 lseek(4</srv/site/a>, 0, SEEK_DATA) = 0', ["1@base lseek 1 set 0"]),
     ('100 sendfile(1</dev/pts/0>, 4</srv/site/a>, NULL, 4096) = 8', ["1@base read 1 4096"]),
     ('100 setresuid(-1, 7, -1) = 0', "with what the profile's call does not have"),
@@ -165,7 +167,7 @@ def check_summary(folder):
     for reason in set(left_out.values()):
         count = sum(reason == each for each in left_out.values())
         equal(f"# {count} left out, {reason}\n".encode() in text, True, reason)
-    equal(b"# no call of the profile: fcntl 1, tgkill 1, readlink 1\n" in text, True, "names of calls")
+    equal(b"# no call of the profile: fcntl 1, tgkill 1, ftruncate 1, readlink 1\n" in text, True, "names of calls")
     equal(b"# 1 bytes that the log does not have are written as ?\n" in text, True, "bytes that are made up")
 
 
