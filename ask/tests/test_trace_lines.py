@@ -1,11 +1,17 @@
 #!/usr/bin/env python3
 """Logs written by hand: which lines of the script each call of a log becomes, and what is left out, in each form of a log."""
+import argparse
 import pathlib
+import random
 import re
 import tempfile
 
 from system import labask
 
+import against
+import trace
+from playing import Player, find_program
+from strace.log import Call, read_log
 from strace.values import Argument, split_arguments
 from worlds import read_world
 
@@ -100,6 +106,8 @@ LOG = [
     ('100 exit_group(0) = ?', ["1@base exit 0"]),
     ('100 +++ exited with 0 +++', []),
 ]
+BROKEN = 150
+NUMBERS = (b"0", b"1", b"3", b"-1", b"100", b"101", b"07777", b"65537", b"4294967296", b"99999999999999999999", b"0x10")
 checked = 0
 
 
@@ -199,6 +207,32 @@ def check_faults(folder):
     labask("trace", folder / "none", folder / "log", status=1)
 
 
+def broken(random, lines):
+    """The lines of a log, of which some are damaged: bytes are lost, doubled or turned, numbers are others, lines are exchanged."""
+    lines = [line.encode("latin-1") for line in lines]
+    for _ in range(random.randrange(1, 40)):
+        index = random.randrange(len(lines))
+        line, at = lines[index], random.randrange(len(lines[index]) + 1)
+        lines[index] = random.choice((
+            lambda: line[:at], lambda: line[:at] + line[at + 5:], lambda: line[:at] + random.choice(lines)[:20] + line[at:],
+            lambda: line[:at] + bytes([random.randrange(11, 256)]) + line[at + 1:],
+            lambda: re.sub(rb"\d+", lambda digits: random.choice(NUMBERS), line, count=2), lambda: random.choice(lines)))()
+    return b"".join(line + b"\n" for line in lines)
+
+
+def check_broken(count):
+    """Logs with damaged lines are followed to their ends, and what is written is played and compared."""
+    player, world = Player([find_program()]), read_world(WORLD)
+    options = argparse.Namespace(directory=None, tag=None, start=None, umask=None)
+    for seed in range(count):
+        log = read_log(broken(random.Random(seed), [line for line, due in LOG]))
+        script = trace.trace(world, log, options, player)
+        run = WORLD + b"".join(line + b"\n" for line in script.lines)
+        found = against.compare_all(read_world(run), log, player.play_accepted(run).replies)
+        calls = sum(isinstance(event, Call) for event in log.events)
+        equal(script.played + sum(script.left_out.values()) >= calls and len(found) <= script.played, True, f"broken log {seed}")
+
+
 def check_values():
     """Readings of arguments."""
     equal([each.written for each in split_arguments(b'3</a,b>, "x, \\"y", {a=1, b=[2, 3]}, 1<<3|4')],
@@ -222,7 +256,8 @@ def main():
         check_summary(folder)
         check_options(folder)
         check_faults(folder)
-    print(f"{len(LOG)} lines of a log in 3 forms; {checked} comparisons")
+        check_broken(BROKEN)
+    print(f"{len(LOG)} lines of a log in 3 forms, {BROKEN} logs with broken lines; {checked} comparisons")
 
 
 if __name__ == "__main__":
