@@ -1,2 +1,6 @@
 pub mod Decisions
 pub mod ItemLemmas
+pub mod LineLemmas
+pub mod ProgramLemmas
+pub mod Progress
+pub mod ScheduleLemmas

@@ -1,1 +1,4 @@
+pub mod Programs
+pub mod Reading
 pub mod Reporting
+pub mod Schedule

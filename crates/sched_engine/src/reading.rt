@@ -1,0 +1,78 @@
+// A schedule, read line by line.
+ghost use Rattle.std.specs.Prelude.{◌≡◌, ℕ, true, IfOk, Ok, Err};
+ghost use Rattle.lab_engine.specs.Counts.{CountsOnce, counts};
+ghost use Rattle.lab_text.specs.Policy.{top_of};
+ghost use Rattle.sched_engine.specs.Reading.{ReadsLine, ReadsSchedule};
+ghost use Rattle.sched_engine.specs.Schedule.{MayBePlayed};
+
+use crate::schedule::{Expecting, Schedule};
+use io_ends::{Lines, Next, Source};
+use lab_engine::{Fault, InputEnd, Part, Texts};
+use line_text::LineFault;
+use script_text::read_step;
+
+/// What reading a line of a schedule leads to.
+#[derive(Drop)]
+pub enum ScheduleLine {
+    /// This is due after it.
+    GoesOn(Expecting),
+    /// The schedule ends here, or the input does before it.
+    Ended(Result<Schedule, InputEnd>),
+}
+
+// The end of an input at the line that was asked for last, which is refused.
+fn refused(lines: &Lines, why: LineFault) -> ScheduleLine
+    ensures { result ≡ ScheduleLine.Ended (Err (InputEnd.Refused lines.now.number Part.Script why)) }
+{
+    let ending = InputEnd::Refused(u64::from(lines.number()), Part::Script, why);
+    ScheduleLine::Ended(Err(ending))
+}
+
+// Reads a line of a schedule.
+fn read_schedule_line<S: Source>(
+    texts: Texts<'_>,
+    due: Expecting,
+    lines: &mut Lines,
+    source: &mut S,
+) -> Result<ScheduleLine, Fault>
+    requires { lines.old.more ≡ true }
+    ensures reads { ReadsLine result texts.entry.policy.now due lines.old lines.new (S.view source.old).left (S.view source.new).left }
+    ensures counts { (o t : ℕ) → CountsOnce result (counts (S.view source.old).faults o t) (counts (S.view source.new).faults o t) }
+{
+    match lines.next(source)? {
+        Next::Line => match read_step(texts.alloc, texts.policy, lines.line()) {
+            Ok(line) => match due.after_step(texts.alloc, line)? {
+                Some(after) => Ok(ScheduleLine::GoesOn(after)),
+                None => Ok(refused(lines, LineFault::Syntax)),
+            },
+            Err(error) => Ok(refused(lines, error.fault()?)),
+        },
+        Next::End => match due.into_schedule()? {
+            Some(schedule) => Ok(ScheduleLine::Ended(Ok(schedule))),
+            None => Ok(refused(lines, LineFault::Syntax)),
+        },
+        Next::Unended => Ok(refused(lines, LineFault::Syntax)),
+        Next::LongLine => Ok(refused(lines, LineFault::TooLong)),
+        Next::TooMuch => Ok(ScheduleLine::Ended(Err(InputEnd::TooMuch))),
+    }
+}
+
+/// Reads the schedule that follows a world, to the end of the input, and plays nothing of it.
+pub fn read_schedule<S: Source>(
+    texts: Texts<'_>,
+    lines: &mut Lines,
+    source: &mut S,
+) -> Result<Result<Schedule, InputEnd>, Fault>
+    requires { lines.old.more ≡ true }
+    ensures reads { ReadsSchedule result texts.entry.policy.now lines.old lines.new (S.view source.old).left (S.view source.new).left }
+    ensures plays { IfOk result (λ found. IfOk found (MayBePlayed (top_of texts.entry.policy.now))) }
+    ensures counts { (o t : ℕ) → CountsOnce result (counts (S.view source.old).faults o t) (counts (S.view source.new).faults o t) }
+{
+    let mut due = Expecting::Slices;
+    loop {
+        match read_schedule_line(texts, due, lines, source)? {
+            ScheduleLine::GoesOn(after) => due = after,
+            ScheduleLine::Ended(found) => return Ok(found),
+        }
+    }
+}
