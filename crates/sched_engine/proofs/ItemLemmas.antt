@@ -1,6 +1,6 @@
 -- What the ends of a reporter of programs hold, as it sees more calls, and at the end.
-use Rattle.std.proofs.Common.{◌≡◌, ℕ, ◌+◌, ◌≤◌, ◌<◌, true, List, [], ◌∷◌, ◌++◌, length, map, refl, sym, ◌∙◌, ap, subst, append_assoc, arith, rules, Option, Some, None}
-use Rattle.std.proofs.lemmas.List.{append-nil, length-append, length-map, map-append}
+use Rattle.std.proofs.Common.{◌≡◌, ℕ, ◌+◌, ◌≤◌, ◌<◌, List, [], ◌∷◌, ◌++◌, length, refl, sym, ◌∙◌, ap, subst, append_assoc, arith, rules, Option, Some, None}
+use Rattle.std.proofs.lemmas.List.{length-append, length-map, map-append}
 use Rattle.std.proofs.Math.Logic.{∥∥₁_elim, ∥∥₁_map}
 use Rattle.std.proofs.Props.{props}
 use Rattle.std.specs.Coded.{Coded-set, coded_ℕ}
@@ -21,7 +21,7 @@ use Rattle.lab_engine.specs.declared.reporting.Report.TheVariants.{All}
 use Rattle.lab_engine.specs.Counts.{Counts, counted_by}
 use Rattle.lab_engine.specs.declared.reporting.Shown.TheVariants as shown
 use Rattle.lab_engine.specs.Order.{Sent, to_out, to_trail}
-use Rattle.lab_engine.specs.Playing.{Ends, Sends, SendsAll, SendsPrefix, StopsBy, ends, faults_of}
+use Rattle.lab_engine.specs.Playing.{Ends, SendsAll, SendsPrefix, StopsBy, ends, faults_of}
 use Rattle.lab_engine.specs.Readable.{AreReadable, IsReadable}
 use Rattle.lab_engine.specs.Report.{report_after, sends_from}
 use Rattle.lab_engine.specs.Reporter.{HoldReports}

@@ -1,6 +1,5 @@
 -- What is written of the calls of programs, and what a reporter of them keeps.
 use Rattle.std.specs.Prelude.{◌≡◌, ℕ, List, [], ◌∷◌, length, map, Some, None}
-use Rattle.std.specs.Borrow.{MutBor}
 use Rattle.std.specs.List.{AllByRecursion}
 use Rattle.std.specs.declared.option.Option.{Option}
 use Rattle.io_ends.specs.Ends.{SinkView}

@@ -103,12 +103,7 @@ pub struct ProgramReporter<'a, K: Sink, T: Sink> {
 
 impl<'a, K: Sink, T: Sink> ProgramReporter<'a, K, T> {
     /// A reporter over an output and a trail, which has seen no call. The text in `buffer` is not read.
-    pub fn new(
-        texts: Texts<'a>,
-        buffer: &'a mut Vec<u8>,
-        out: &'a mut K,
-        trail: &'a mut T,
-    ) -> Self
+    pub fn new(texts: Texts<'a>, buffer: &'a mut Vec<u8>, out: &'a mut K, trail: &'a mut T) -> Self
         ensures policy { result.texts.policy.now ≡ texts.entry.policy.now }
         ensures same_out { result.out.ghost_name ≡ out.entry.ghost_name }
         ensures same_trail { result.trail.ghost_name ≡ trail.entry.ghost_name }
@@ -169,7 +164,14 @@ impl<'a, K: Sink, T: Sink> Watch for ProgramReporter<'a, K, T> {
 
     fn saw(&mut self, who: &Pid, call: &Call, outcome: &Outcome) -> Result<(), SchedFault> {
         let made = MadeCall { who, call, outcome };
-        match write_call(self.texts, self.count, made, self.buffer, self.out, self.trail) {
+        match write_call(
+            self.texts,
+            self.count,
+            made,
+            self.buffer,
+            self.out,
+            self.trail,
+        ) {
             Ok(number) => {
                 self.seen = self.seen.with(who, call, outcome);
                 self.count = number;
@@ -212,7 +214,15 @@ pub fn report_programs<C: Calls, K: Sink, T: Sink>(
 {
     let room = &mut Vec::new(texts.alloc);
     let mut reporter = ProgramReporter::new(texts, room, out, trail);
-    match run_programs(texts.alloc, kernel, living, programs, slices, rounds, &mut reporter) {
+    match run_programs(
+        texts.alloc,
+        kernel,
+        living,
+        programs,
+        slices,
+        rounds,
+        &mut reporter,
+    ) {
         Ok(()) => Ok(reporter.count()),
         Err(_) => Err(reporter.fault().unwrap_or(Fault::NoMemory)),
     }
