@@ -14,7 +14,8 @@ use Rattle.kern_model.proofs.KeyLaws.{pid_cmp_total}
 use Rattle.lab_lattice.specs.Label.{Label}
 use Rattle.script_text.specs.declared.step.ProgStep.{ProgStep}
 use Rattle.sched_progs.specs.declared.program.Program.{Program}
-use Rattle.sched_progs.specs.Programs.{Programs, are_programs, is_step}
+use Rattle.kern_model.specs.Arguments.{is_call}
+use Rattle.sched_progs.specs.Programs.{Programs, are_programs, call_passes}
 use Rattle.sched_engine.specs.declared.programs.TheConstants.{MAX_STEPS}
 use Rattle.sched_engine.specs.Programs.{AreOwners, are_distinct, has_program, program_of, with_program, with_step}
 
@@ -152,12 +153,12 @@ record StepKeeps (top : Label) (programs more : Programs) : Type 0 where
   distinct : are_distinct more ≡ are_distinct programs
   plays : are_programs top programs ≡ true → are_programs top more ≡ true
 
-step_keeps : (top : Label) (made : ProgStep) → is_step top made ≡ true → (programs : Programs) → IfSome (with_step programs made) (StepKeeps top programs)
+step_keeps : (top : Label) (made : ProgStep) → call_passes (is_call top) made ≡ true → (programs : Programs) → IfSome (with_step programs made) (StepKeeps top programs)
 step_keeps top made may [] = tt
 step_keeps top made may (p ∷ []) = where_true (nat_lt (length p.1.steps) MAX_STEPS) _ (StepKeeps top (p ∷ [])) (λ t. record {
   has = λ q. refl;
   distinct = refl;
-  plays = λ all. and_from _ true (all_end (is_step top) p.1.steps made (and_parts (list_all (is_step top) p.1.steps) true all).0 may) refl;
+  plays = λ all. and_from _ true (all_end (call_passes (is_call top)) p.1.steps made (and_parts (list_all (call_passes (is_call top)) p.1.steps) true all).0 may) refl;
 })
 step_keeps top made may (p ∷ e ∷ ps) = kept (with_step (e ∷ ps) made) (step_keeps top made may (e ∷ ps))
   where
@@ -166,7 +167,7 @@ step_keeps top made may (p ∷ e ∷ ps) = kept (with_step (e ∷ ps) made) (ste
     kept (Some more) k = record {
       has = λ q. ap (λ b. same_pid p.0 q || b) (k.has q);
       distinct = (λ i. not (k.has p.0 i) && k.distinct i);
-      plays = λ all. let both = and_parts (list_all (is_step top) p.1.steps) (are_programs top (e ∷ ps)) all in and_from (list_all (is_step top) p.1.steps) (are_programs top more) both.0 (k.plays both.1);
+      plays = λ all. let both = and_parts (list_all (call_passes (is_call top)) p.1.steps) (are_programs top (e ∷ ps)) all in and_from (list_all (call_passes (is_call top)) p.1.steps) (are_programs top more) both.0 (k.plays both.1);
     }
 
 -- ---- what may be played
@@ -176,7 +177,7 @@ pub record MayRun (top : Label) (programs : Programs) : Type 0 where
   pub plays : are_programs top programs ≡ true
   pub distinct : are_distinct programs ≡ true
 
-pub step_may_run : (top : Label) (made : ProgStep) → is_step top made ≡ true → (programs : Programs) → MayRun top programs → IfSome (with_step programs made) (MayRun top)
+pub step_may_run : (top : Label) (made : ProgStep) → call_passes (is_call top) made ≡ true → (programs : Programs) → MayRun top programs → IfSome (with_step programs made) (MayRun top)
 step_may_run top made may programs run = with_it (with_step programs made) (step_keeps top made may programs)
   where
     with_it : (w : Option Programs) → IfSome w (StepKeeps top programs) → IfSome w (MayRun top)
@@ -194,6 +195,6 @@ distinct_end (p ∷ ps) who distinct none =
 
 pub program_may_run : (top : Label) (programs : Programs) (who : Pid) → MayRun top programs → IfSome (with_program programs who) (MayRun top)
 program_may_run top programs who run = where_false (has_program programs who) _ (MayRun top) (λ none. record {
-  plays = all_end (λ (p : Pid × Program). list_all (is_step top) p.1.steps) programs (program_of who []) run.plays refl;
+  plays = all_end (λ (p : Pid × Program). list_all (call_passes (is_call top)) p.1.steps) programs (program_of who []) run.plays refl;
   distinct = distinct_end programs who run.distinct none;
 })

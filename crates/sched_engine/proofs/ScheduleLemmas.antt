@@ -4,13 +4,13 @@ use Rattle.std.specs.Prelude.{nat_le, option_map, IfSome}
 use Rattle.std.specs.List.{list_all}
 use Rattle.std.proofs.lemmas.Bool.{and_parts, and_from, leb-true}
 use Rattle.lab_lattice.specs.Label.{Label, dominates}
-use Rattle.kern_model.specs.Arguments.{has_names, is_call}
+use Rattle.kern_model.specs.Arguments.{is_call}
 use Rattle.script_text.specs.declared.step.ProgStep.{ProgStep}
 use Rattle.script_text.specs.declared.step.ProgStep.TheVariants as step
 use Rattle.script_text.specs.declared.step.StepLine.{StepLine}
 use Rattle.script_text.specs.declared.step.StepLine.TheVariants as line
 use Rattle.script_text.specs.Step.{MayBeMade, StepMayBePlayed}
-use Rattle.sched_progs.specs.Programs.{Programs, is_step}
+use Rattle.sched_progs.specs.Programs.{Programs, call_passes}
 use Rattle.sched_engine.specs.declared.schedule.Expecting.{Expecting}
 use Rattle.sched_engine.specs.declared.schedule.Expecting.TheVariants as at
 use Rattle.sched_engine.specs.declared.schedule.Schedule.{Schedule}
@@ -20,8 +20,8 @@ use Rattle.sched_engine.specs.Schedule.{MayBePlayed, MayGoOn, are_few, are_turns
 use Rattle.sched_engine.proofs.ProgramLemmas.{MayRun, program_may_run, step_may_run, where_true}
 
 -- a step that may be made may be played
-made_plays : (top : Label) (made : ProgStep) → MayBeMade top made → is_step top made ≡ true
-made_plays top (step.Do call) may = and_from (is_call top call) (has_names call) may.0 may.1
+made_plays : (top : Label) (made : ProgStep) → MayBeMade top made → call_passes (is_call top) made ≡ true
+made_plays top (step.Do call) may = may.0
 made_plays top (step.Jump when to) may = refl
 made_plays top step.Stop may = refl
 
