@@ -7,7 +7,7 @@ ghost use Rattle.lab_text.specs.Text.{label_text};
 ghost use Rattle.lab_text.specs.Numbered.{numbered_text};
 ghost use Rattle.kern_model.specs.Names.{place_text};
 ghost use Rattle.line_text.specs.Words.{thing_text};
-ghost use Rattle.aud_red.specs.Json.{Number, Text, ending_value, new_label_value, escaped_byte, are_printable};
+ghost use Rattle.aud_red.specs.Json.{Null, Number, Text, ending_value, new_label_value, escaped_byte, are_printable};
 ghost use Rattle.aud_red.specs.ObjectText.{are_plain, comma_after, with_key, with_text};
 
 use crate::NoMemory;
@@ -174,6 +174,16 @@ impl ObjectText {
         closed(text)
     }
 
+    // With null.
+    fn null(self, key: &str) -> Result<ObjectText, NoMemory>
+        requires { are_plain key.now ≡ true }
+        ensures { IfOk result (λ json. json ≡ with_text self (key.now, Null)) }
+    {
+        let mut text = self.with_key(key)?;
+        text.extend_from_slice(b"null")?;
+        Ok(ObjectText { text })
+    }
+
     /// With the new label of a check, null where it has none.
     pub fn new_label(
         self,
@@ -184,12 +194,10 @@ impl ObjectText {
         requires { are_plain key.now ≡ true }
         ensures { IfOk result (λ json. json ≡ with_text self (key.now, new_label_value policy.now label.now)) }
     {
-        let Some(label) = label else {
-            let mut text = self.with_key(key)?;
-            text.extend_from_slice(b"null")?;
-            return Ok(ObjectText { text });
-        };
-        self.label(key, policy, label)
+        match label {
+            Some(label) => self.label(key, policy, label),
+            None => self.null(key),
+        }
     }
 
     // With a mark and a number, which was drawn at a label.
