@@ -22,19 +22,18 @@ use Rattle.script_text.specs.declared.step.StepLine.{StepLine}
 use Rattle.script_text.specs.declared.step.StepLine.TheVariants as line_is
 use Rattle.script_text.specs.Reading.{IsCause, IsFaultOf, Reading}
 use Rattle.script_text.specs.Step.{StepMayBePlayed, parse_step, parse_step_words}
-use Rattle.lab_engine.specs.declared.ending.Fault.{Fault}
 use Rattle.lab_engine.specs.declared.ending.InputEnd.{InputEnd}
-use Rattle.lab_engine.specs.declared.ending.InputEnd.TheVariants.{Whole, Refused, TooMuch}
+use Rattle.lab_engine.specs.declared.ending.InputEnd.TheVariants.{Refused, TooMuch}
 use Rattle.lab_engine.specs.declared.ending.Part.TheVariants as part
 use Rattle.lab_engine.specs.Input.{last_piece}
 use Rattle.lab_engine.specs.Reading.{Takes, left_of}
-use Rattle.lab_engine.proofs.LeftLemmas.{left_line, left_long, left_part, left_past, read_left}
+use Rattle.lab_engine.proofs.LeftLemmas.{left_line, left_long, left_part, left_past}
 use Rattle.sched_engine.specs.declared.reading.ScheduleLine.{ScheduleLine}
 use Rattle.sched_engine.specs.declared.reading.ScheduleLine.TheVariants as schedule_line
 use Rattle.sched_engine.specs.declared.schedule.Expecting.{Expecting}
 use Rattle.sched_engine.specs.declared.schedule.Schedule.{Schedule}
-use Rattle.sched_engine.specs.Reading.{Ends, GoesOn, ReadsLine, SaysLine, after_line, at_end, go_on, schedule_from, schedule_left}
-use Rattle.sched_engine.specs.Schedule.{MayBePlayed, MayGoOn, after_step, step_line, whole}
+use Rattle.sched_engine.specs.Reading.{ReadsLine, after_line, at_end, go_on, schedule_from, schedule_left}
+use Rattle.sched_engine.specs.Schedule.{step_line, whole}
 use Rattle.sched_engine.proofs.ScheduleLemmas.{step_plays, whole_plays}
 
 -- ---- one step of the definition

@@ -4,7 +4,7 @@ use Rattle.std.specs.Prelude.{nat_lt, option_map, option_to_list, IfSome}
 use Rattle.std.specs.BTreeSet as set
 use Rattle.std.specs.BTreeSet.{BTreeSet, contains}
 use Rattle.std.specs.Cmp.{eq_by_cmp_equiv}
-use Rattle.std.specs.List.{list_all, list_any}
+use Rattle.std.specs.List.{list_all}
 use Rattle.std.proofs.lemmas.Bool.{and_parts, and_from, or_parts, le-ltb, lt-ltb}
 use Rattle.std.proofs.lemmas.List.{append-nil}
 use Rattle.std.proofs.lemmas.List.Folds.{list_any-append}
@@ -190,7 +190,7 @@ distinct_end (p ∷ ps) who distinct none =
     let both = and_parts (not (has_program ps p.0)) (are_distinct ps) distinct in
     let others = or_parts (same_pid p.0 who) (has_program ps who) none in
     let apart : has_program (ps ++ program_of who [] ∷ []) p.0 ≡ has_program ps p.0 =
-        has_end ps (program_of who []) p.0 ∙ ap (λ b. has_program ps p.0 || b) (same_back who p.0 ∙ others.0) ∙ or_false (has_program ps p.0) in
+    has_end ps (program_of who []) p.0 ∙ ap (λ b. has_program ps p.0 || b) (same_back who p.0 ∙ others.0) ∙ or_false (has_program ps p.0) in
     and_from (not (has_program (ps ++ program_of who [] ∷ []) p.0)) (are_distinct (ps ++ program_of who [] ∷ [])) (ap not apart ∙ both.0) (distinct_end ps who both.1 others.1)
 
 pub program_may_run : (top : Label) (programs : Programs) (who : Pid) → MayRun top programs → IfSome (with_program programs who) (MayRun top)

@@ -1,5 +1,5 @@
 -- A schedule that is read line by line: what was read so far, and what its reading leads to.
-use Rattle.std.proofs.Common.{◌≡◌, ℕ, ◌<◌, ◌≤◌, true, List, [], ◌++◌, refl, sym, ◌∙◌, ap, subst, append_assoc, arith, Option}
+use Rattle.std.proofs.Common.{◌≡◌, ℕ, ◌<◌, true, List, [], ◌++◌, refl, sym, ◌∙◌, ap, subst, append_assoc, Option}
 use Rattle.std.specs.Prelude.{IsErrAnd, IfOk, Result, Ok, Err}
 use Rattle.io_ends.specs.LinesState.{LinesState}
 use Rattle.lab_text.specs.Policy.{PolicyNames, top_of}

@@ -1,9 +1,8 @@
 -- What the lines of a schedule give may be played.
-use Rattle.std.proofs.Common.{◌≡◌, ℕ, ◌*◌, ◌≤◌, ◌&&◌, Bool, true, false, cond, List, [], ◌∷◌, length, refl, sym, ◌∙◌, ap, subst, Option, Some, None}
+use Rattle.std.proofs.Common.{◌≡◌, ℕ, ◌*◌, true, List, [], length, refl, subst, Option, Some, None}
 use Rattle.std.specs.Prelude.{nat_le, option_map, IfSome}
-use Rattle.std.specs.List.{list_all}
-use Rattle.std.proofs.lemmas.Bool.{and_parts, and_from, leb-true}
-use Rattle.lab_lattice.specs.Label.{Label, dominates}
+use Rattle.std.proofs.lemmas.Bool.{and_parts, leb-true}
+use Rattle.lab_lattice.specs.Label.{Label}
 use Rattle.kern_model.specs.Arguments.{is_call}
 use Rattle.script_text.specs.declared.step.ProgStep.{ProgStep}
 use Rattle.script_text.specs.declared.step.ProgStep.TheVariants as step

@@ -1,5 +1,5 @@
 -- A schedule in an input: what it is by its lines, and what is read of it.
-use Rattle.std.specs.Prelude.{◌≡◌, ℕ, ◌+◌, ◌<◌, Bool, true, List, [], ◌∷◌, ◌++◌, length, take, nat_lt, Option, ok_or, Result, Ok, Err, IfOk, MatchResult}
+use Rattle.std.specs.Prelude.{◌≡◌, ℕ, ◌+◌, ◌<◌, Bool, true, List, [], ◌∷◌, ◌++◌, length, take, nat_lt, Option, ok_or, Result, Ok, Err, IfOk}
 use Rattle.std.specs.Io.KnownBytes.{IsAtEnd}
 use Rattle.fs_path.specs.Split.{pieces}
 use Rattle.io_ends.specs.LinesState.{LinesState}
