@@ -1,5 +1,5 @@
 -- The text of an object: what `serde_json` writes for it, and reads from it.
-use Rattle.std.specs.Prelude.{◌≡◌, ℕ, ◌^◌, ◌≤◌, ◌==◌, ◌&&◌, ◌||◌, nat_lt, max, Bool, true, false, cond, List, [], ◌∷◌, ◌++◌, map, refl, suc, Option, Some, option_map, option_and_then}
+use Rattle.std.specs.Prelude.{◌≡◌, ℕ, ◌^◌, ◌==◌, ◌&&◌, ◌||◌, nat_lt, max, Bool, true, false, cond, List, [], ◌∷◌, ◌++◌, map, refl, suc, Option, Some, option_map, option_and_then}
 use Rattle.std.specs.List.{flat_map, join_with_byte}
 use Rattle.std.proofs.Common.{ap, sym, ◌∙◌, append_assoc, append-nil, arith}
 use Rattle.std.proofs.lemmas.Bool.{and_parts, cond_both, cond-false, cond-true, ltb-true}

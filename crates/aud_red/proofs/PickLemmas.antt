@@ -5,7 +5,7 @@ use Rattle.std.proofs.lemmas.Bool.{and_parts, and_from}
 use Rattle.std.proofs.lemmas.Cmp.{eq_by_cmp_equiv}
 use Rattle.cap_bits.proofs.CapSets.{same_cap-decides}
 use Rattle.cap_bits.specs.declared.cap.Cap.{Cap}
-use Rattle.kern_model.specs.Keys.{same_pid as are_same, pid_cmp}
+use Rattle.kern_model.specs.Keys.{same_pid as are_same}
 use Rattle.kern_model.specs.Named.{find_named}
 use Rattle.kern_model.specs.Records.{who_of}
 use Rattle.kern_model.specs.declared.numbers.Pid.{Pid}

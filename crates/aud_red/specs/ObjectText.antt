@@ -14,7 +14,7 @@ use Rattle.line_text.specs.Words.{pid_text, oid_text, thing_text}
 use Rattle.aud_record.specs.Events.{event_of, event_word}
 use Rattle.aud_record.specs.Written.{switch_word}
 use Rattle.aud_record.specs.declared.reading.ReadRec.{ReadRec}
-use Rattle.aud_red.specs.Json.{JsonValue, Number, Text, Member, json_string, member_text, ending_kind, ending_value, new_label_value}
+use Rattle.aud_red.specs.Json.{Number, Text, Member, json_string, member_text, ending_kind, ending_value, new_label_value}
 
 -- ---- the text of an object, before the brace that closes it
 

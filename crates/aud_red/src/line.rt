@@ -13,7 +13,7 @@ use kern_model::Rec;
 use lab_text::Policy;
 use std::alloc::Global;
 
-// Puts what stands before the number of the call.
+// Puts the members of a kind of records that stand before `call`.
 fn put_before_call(json: ObjectText, rec: &Rec) -> Result<ObjectText, NoMemory>
     ensures { IfOk result (λ text. text ≡ with_texts json (before_call rec.now)) }
 {
@@ -23,7 +23,7 @@ fn put_before_call(json: ObjectText, rec: &Rec) -> Result<ObjectText, NoMemory>
     }
 }
 
-// Puts what stands between the number of the call and the word of the event.
+// Puts the members of a kind of records that stand between `call` and `event`.
 #[tactic(auto, using(crate::proofs::Printable::of_cap, crate::proofs::Printable::of_check, crate::proofs::Printable::of_errno))]
 fn put_before_event(json: ObjectText, policy: &Policy, rec: &Rec) -> Result<ObjectText, NoMemory>
     ensures { IfOk result (λ text. text ≡ with_texts json (before_event policy.now rec.now)) }
@@ -46,7 +46,7 @@ fn put_before_event(json: ObjectText, policy: &Policy, rec: &Rec) -> Result<Obje
     }
 }
 
-// Puts what stands between the word of the event and the process.
+// Puts the members of a kind of records that stand between `event` and `pid`.
 #[tactic(auto, using(crate::proofs::Printable::of_kind, crate::proofs::Printable::of_call))]
 fn put_before_pid(json: ObjectText, policy: &Policy, rec: &Rec) -> Result<ObjectText, NoMemory>
     ensures { IfOk result (λ text. text ≡ with_texts json (before_pid policy.now rec.now)) }
@@ -86,7 +86,7 @@ fn put_before_pid(json: ObjectText, policy: &Policy, rec: &Rec) -> Result<Object
     }
 }
 
-// Puts what stands after the process.
+// Puts the members of a kind of records that stand after `pid`.
 #[tactic(auto, using(crate::proofs::Printable::of_switch))]
 fn put_after_pid(json: ObjectText, policy: &Policy, rec: &Rec) -> Result<ObjectText, NoMemory>
     ensures { IfOk result (λ text. text ≡ with_texts json (after_pid policy.now rec.now)) }

@@ -24,7 +24,7 @@ use std::marker::Model;
 const USUAL_OBJECT: usize = 512;
 
 /// The text of an object under construction, seen as its bytes so far: a brace, and members with commas between them. The
-/// bytes are printable.
+/// bytes are printable. Members stand in the order in which they are put; after an error there is no text.
 #[derive(Drop)]
 pub struct ObjectText {
     text: Vec<u8>,
@@ -140,7 +140,7 @@ impl ObjectText {
         Ok(text)
     }
 
-    /// With a number.
+    /// Puts a number at a key.
     pub fn number(self, key: &str, n: u64) -> Result<ObjectText, NoMemory>
         requires { are_plain key.now ≡ true }
         ensures text { IfOk result (λ json. json ≡ with_text self (key.now, Number n)) }
@@ -151,7 +151,7 @@ impl ObjectText {
         Ok(ObjectText { text })
     }
 
-    /// With a word.
+    /// Puts a word at a key.
     pub fn word(self, key: &str, word: &[u8]) -> Result<ObjectText, NoMemory>
         requires key { are_plain key.now ≡ true }
         requires word { are_plain word.now ≡ true }
@@ -162,7 +162,7 @@ impl ObjectText {
         closed(text)
     }
 
-    /// With a label.
+    /// Puts a label at a key.
     pub fn label(self, key: &str, policy: &Policy, label: &Label) -> Result<ObjectText, NoMemory>
         requires { are_plain key.now ≡ true }
         ensures { IfOk result (λ json. json ≡ with_text self (key.now, Text (label_text policy.now label.now))) }
@@ -174,7 +174,7 @@ impl ObjectText {
         closed(text)
     }
 
-    // With null.
+    // Puts null at a key.
     fn null(self, key: &str) -> Result<ObjectText, NoMemory>
         requires { are_plain key.now ≡ true }
         ensures { IfOk result (λ json. json ≡ with_text self (key.now, Null)) }
@@ -184,7 +184,7 @@ impl ObjectText {
         Ok(ObjectText { text })
     }
 
-    /// With the new label of a check, null where it has none.
+    /// Puts the new label of a check at a key, null where it has none.
     pub fn new_label(
         self,
         key: &str,
@@ -200,7 +200,7 @@ impl ObjectText {
         }
     }
 
-    // With a mark and a number, which was drawn at a label.
+    // Puts a mark and a number, which was drawn at a label, at a key.
     fn marked_number(
         self,
         key: &str,
@@ -220,7 +220,7 @@ impl ObjectText {
         closed(text)
     }
 
-    /// With the number of a process or an object, which was drawn at a label.
+    /// Puts the number of a process or an object, which was drawn at a label, at a key.
     pub fn numbered(
         self,
         key: &str,
@@ -234,7 +234,7 @@ impl ObjectText {
         self.marked_number(key, b"", policy, n, label)
     }
 
-    /// With the object or process of a check.
+    /// Puts the object or process of a check at a key.
     pub fn thing(self, key: &str, policy: &Policy, thing: &Thing) -> Result<ObjectText, NoMemory>
         requires { are_plain key.now ≡ true }
         ensures { IfOk result (λ json. json ≡ with_text self (key.now, Text (thing_text policy.now thing.now))) }
@@ -245,7 +245,7 @@ impl ObjectText {
         }
     }
 
-    /// With a capability state.
+    /// Puts a capability state at a key.
     pub fn caps(self, key: &str, caps: &CapState) -> Result<ObjectText, NoMemory>
         requires { are_plain key.now ≡ true }
         ensures { IfOk result (λ json. json ≡ with_text self (key.now, Text (caps_text caps.now))) }
@@ -255,7 +255,7 @@ impl ObjectText {
         closed(text)
     }
 
-    /// With the place of a check.
+    /// Puts the place of a check at a key.
     pub fn place(self, key: &str, place: Place) -> Result<ObjectText, NoMemory>
         requires { are_plain key.now ≡ true }
         ensures { IfOk result (λ json. json ≡ with_text self (key.now, Text (place_text place))) }
@@ -265,7 +265,7 @@ impl ObjectText {
         closed(text)
     }
 
-    /// With the exit status of a process or the name of a signal.
+    /// Puts the exit status of a process or the name of a signal at a key.
     pub fn ending_value(self, key: &str, ending: Ending) -> Result<ObjectText, NoMemory>
         requires { are_plain key.now ≡ true }
         ensures { IfOk result (λ json. json ≡ with_text self (key.now, Text (ending_value ending))) }
@@ -281,7 +281,7 @@ impl ObjectText {
         }
     }
 
-    /// With bytes as they stand between quotes.
+    /// Puts bytes at a key as they stand between quotes.
     #[tactic(auto, using(crate::proofs::ObjectTextLemmas::string_put))]
     pub fn bytes(self, key: &str, bytes: &[u8]) -> Result<ObjectText, NoMemory>
         requires { are_plain key.now ≡ true }
