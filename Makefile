@@ -4,11 +4,12 @@
 #     make uninstall [PREFIX=/usr/local] [DESTDIR=]
 #
 # `make` builds the program first, where it is not built; so does `make install`. The program goes below libexec/, and the script
-# that starts it, below bin/.
+# that starts it, below bin/. So does `labask`, which is a link to its folder below libexec/.
 PREFIX = /usr/local
 DESTDIR =
 bindir = $(PREFIX)/bin
 libexecdir = $(PREFIX)/libexec
+askdir = $(libexecdir)/ask
 mandir = $(PREFIX)/share/man
 bashdir = $(PREFIX)/share/bash-completion/completions
 zshdir = $(PREFIX)/share/zsh/site-functions
@@ -21,13 +22,21 @@ install: all
 	install -d '$(DESTDIR)$(bindir)' '$(DESTDIR)$(libexecdir)' '$(DESTDIR)$(mandir)/man1' '$(DESTDIR)$(bashdir)' '$(DESTDIR)$(zshdir)' '$(DESTDIR)$(vimdir)'
 	install -m 755 labsys '$(DESTDIR)$(bindir)/labsys'
 	install -m 755 crates/labsys/out/labsys '$(DESTDIR)$(libexecdir)/labsys'
-	install -m 644 docs/labsys.1 '$(DESTDIR)$(mandir)/man1/labsys.1'
+	install -d '$(DESTDIR)$(askdir)/page_parts' '$(DESTDIR)$(askdir)/strace'
+	install -m 755 ask/labask '$(DESTDIR)$(askdir)/labask'
+	install -m 644 ask/*.py ask/*.css ask/*.js '$(DESTDIR)$(askdir)'
+	install -m 644 ask/page_parts/*.py '$(DESTDIR)$(askdir)/page_parts'
+	install -m 644 ask/strace/*.py '$(DESTDIR)$(askdir)/strace'
+	ln -sf '$(askdir)/labask' '$(DESTDIR)$(bindir)/labask'
+	install -m 644 docs/labsys.1 docs/labask.1 '$(DESTDIR)$(mandir)/man1'
 	install -m 644 completion/labsys.bash '$(DESTDIR)$(bashdir)/labsys'
 	install -m 644 completion/_labsys '$(DESTDIR)$(zshdir)/_labsys'
 	install -m 644 editor/labsys.vim '$(DESTDIR)$(vimdir)/labsys.vim'
 
 uninstall:
 	rm -f '$(DESTDIR)$(bindir)/labsys' '$(DESTDIR)$(libexecdir)/labsys' '$(DESTDIR)$(mandir)/man1/labsys.1'
+	rm -f '$(DESTDIR)$(bindir)/labask' '$(DESTDIR)$(mandir)/man1/labask.1'
+	rm -rf '$(DESTDIR)$(askdir)'
 	rm -f '$(DESTDIR)$(bashdir)/labsys' '$(DESTDIR)$(zshdir)/_labsys' '$(DESTDIR)$(vimdir)/labsys.vim'
 
 .PHONY: all install uninstall

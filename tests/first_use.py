@@ -79,7 +79,7 @@ class Room:
             folder.chmod(0o777)
         for path in ("labsys", "build.sh", "Makefile", "crates.txt", "HANDLES"):
             shutil.copy2(TOP / path, self.top / path)
-        for path in ("docs", "examples", "completion", "editor"):
+        for path in ("docs", "examples", "completion", "editor", "ask"):
             shutil.copytree(TOP / path, self.top / path)
         for path in TOP.glob("crates/*/*/*"):
             if path.name in ("main.rt", "lib.rt", "Lib.antt"):
@@ -387,7 +387,10 @@ class FirstUse(unittest.TestCase):
         root = self.room.room / "root"
         shutil.rmtree(self.room.top)
         self.plays(script=root / "usr/bin/labsys")
-        self.assertTrue((root / "usr/share/man/man1/labsys.1").exists())
+        for name in ("labsys", "labask"):
+            self.assertTrue((root / f"usr/share/man/man1/{name}.1").exists())
+        self.assertEqual(os.readlink(root / "usr/bin/labask"), "/usr/libexec/ask/labask")
+        subprocess.run([root / "usr/libexec/ask/labask", "flow", "--help"], check=True, stdout=subprocess.DEVNULL)
         done = self.room.in_shell("root/usr/bin/labsys play trail <world.txt >&-")
         self.assertEqual(done.returncode, 4)
 
