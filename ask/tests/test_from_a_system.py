@@ -21,10 +21,11 @@ import tempfile
 
 from system import HERE, PLAIN, USER, as_user, program, root, strace
 
-from strace.comparing import known_texts
+from strace.comparing import KNOWN, known_texts
 
 TOP = HERE.parent.parent
 PAGE = TOP / "docs" / "FROM_A_SYSTEM.md"
+DIFFERENCES = TOP / "docs" / "DIFFERENCES.md"
 KEPT = HERE / "logs" / "page"
 RECORDED = "/srv/site"
 # calls that programs make at their start, and that are left out of the logs that are kept
@@ -122,8 +123,18 @@ def record(tracer):
 
 def names_lacking():
     """The known differences that neither page has in the first column of a table."""
-    text = PAGE.read_text(encoding="utf-8") + (TOP / "docs" / "DIFFERENCES.md").read_text(encoding="utf-8")
+    text = PAGE.read_text(encoding="utf-8") + DIFFERENCES.read_text(encoding="utf-8")
     return [name for name in known_texts() if f"| [{name}](" not in text and f"| {name} |" not in text]
+
+
+def rows_wrong():
+    """The known differences by errors whose row in docs/DIFFERENCES.md has not the reply of this kernel and the error of Linux."""
+    rows = {row.partition("](")[0][3:]: row for row in DIFFERENCES.read_text(encoding="utf-8").splitlines() if row.startswith("| [")}
+    for (word, here, there), name in KNOWN.items():
+        row = rows.get(name, f"`{word} {here} {there}")
+        named = f"`{word}" in row and f"{here}" in row and (there == "ok" or there in row)
+        if not named:
+            yield f"the row {name} has not {word}: {here}, and {there} of Linux"
 
 
 def main():
@@ -133,7 +144,7 @@ def main():
         record(tracer)
     if "--write" in sys.argv[1:]:
         PAGE.write_text(play_page(tracer, []), encoding="utf-8")
-    faults = [f"neither page has the difference: {name}" for name in names_lacking()]
+    faults = [f"neither page has the difference: {name}" for name in names_lacking()] + list(rows_wrong())
     for each in dict.fromkeys((tracer, None)):
         differing = difference(play_page(each, commands))
         if differing:
