@@ -5,22 +5,22 @@ import sys
 from typing import Any, Dict, Iterator, Optional, Sequence
 
 from answers import write_json
-from page_parts.lanes import make_lanes, pattern_rules
+from page_parts.lanes import MOST_LANES, make_lanes, pattern_rules
 from page_parts.markup import embedded, text
 from page_parts.rights import rights_section
-from page_parts.rows import Table, make_table, tables_of
+from page_parts.rows import TOGETHER, Table, make_table, tables_of
 from page_parts.run import Run, play_run
 from page_parts.sections import (controls, head_section, labels_section, legend, objects_section, overriding, processes_section,
                                  refusals_of, words_section)
 from page_parts.views import Ranks, View, label_of, named_labels, views_of
 from page_parts.words import caps_of, check_text
-from playing import Player
+from playing import Outcome, Player
 from reasons import error_in_words
 from worlds import read_file, read_world
 
 HERE = pathlib.Path(__file__).resolve().parent
 MOST_VIEWS = 64
-LANE_WIDTHS = ((8, 2.0), (16, 1.4), (40, 0.8))
+LANE_WIDTHS = ((8, 2.0), (16, 1.2), (MOST_LANES, 0.7))  # in rem, by how many lanes there are at most
 
 
 def add_arguments(parser: argparse.ArgumentParser) -> None:
@@ -48,6 +48,8 @@ def data_of(run: Run, views: Sequence[View]) -> Dict[str, Any]:
         "labels": list(labels),
         "tags": [[tag, numbers[label_of(tag)]] for tag in tags],
         "callers": [places[call.reply.tag] for call in run.calls],
+        "marked": [call.number for call in run.calls if call.exercised or call.reply.outcome is Outcome.DENIED],
+        "together": TOGETHER,
         "views": {view.label: {"sees": [numbers[label] for label in labels if label in view.dominated], "replies": len(view.seen),
                                "crossed": view.crossed or 0} for view in views},
         "moments": {tag: [[moment.call, moment.label, *caps_of(moment.caps).values()] for moment in life.moments]
@@ -68,6 +70,8 @@ def style_of(table: Table) -> str:
 
 def calls_section(run: Run, table: Table, views: Sequence[View]) -> Iterator[str]:
     """The parts of the section of calls."""
+    if not run.calls:
+        yield "<p>The script has no call.</p>\n"
     yield from legend(table.lanes)
     yield controls(run, views)
     yield from tables_of(table)
@@ -118,9 +122,10 @@ def write_page(page: str, output: Optional[str]) -> None:
 
 def answer(arguments: argparse.Namespace, player: Player) -> int:
     """Answers the question."""
-    given = read_file(arguments.file)
-    world = read_world(given)
-    run = play_run(player, world, given if world.script_line else world.head())
+    text = read_file(arguments.file)
+    player.check(text)
+    world = read_world(text)
+    run = play_run(player, world)
     named = named_labels(run)
     labels = list(map(world.policy.canonical, arguments.labels)) or named[:MOST_VIEWS]
     ranks = Ranks(player, run, named)

@@ -8,7 +8,7 @@ from typing import Dict, FrozenSet, Iterator, List, Mapping, Optional, Tuple
 from .run import Call, Run
 from .views import label_of
 
-MOST_LANES = 40
+MOST_LANES = 32
 MOST_PATTERNS = 300
 NEVER = 1 << 62
 

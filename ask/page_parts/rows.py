@@ -1,4 +1,9 @@
-"""The table of calls: a row for each call and for each comment of the script, in tables of a hundred calls."""
+"""The table of calls: a row for each call and for each comment of the script, in tables of a hundred calls.
+
+The first tables are there when the page opens. Those after them stand in elements `noscript`: where scripts are on, that is text
+which a browser reads past, and the page's script makes a table of it when it comes into sight, at a choice, at printing, or when
+the browser has time; where scripts are off, they are tables like the first ones.
+"""
 from dataclasses import dataclass
 from itertools import groupby
 from typing import Dict, Iterator, List, Mapping, Optional, Sequence, Tuple, Union
@@ -11,6 +16,7 @@ from .views import View
 from .words import record_text
 
 TOGETHER = 100
+AT_ONCE = 3
 OUTCOMES = {Outcome.DONE: "k", Outcome.DENIED: "d", Outcome.REFUSED: "o"}
 COLUMNS = ("Call", "Line", "", "Process", "Asks for", "Reply", "Records in the trail")
 Item = Union[Call, Note]
@@ -64,8 +70,9 @@ def batches(run: Run) -> Iterator[List[Item]]:
 
 
 def row_class(table: Table, call: Call) -> str:
-    """The classes of a row: how the call was answered, whether a capability was exercised, and the pattern of its lanes."""
-    marks = [OUTCOMES[call.reply.outcome]] + (["x"] if call.exercised else [])
+    """The classes of a row: how the call was answered, whether a capability was exercised, whether there is a record, and the pattern
+    of its lanes."""
+    marks = [OUTCOMES[call.reply.outcome]] + (["x"] if call.exercised else []) + (["s"] if call.records else [])
     return " ".join(marks + ([f"a{table.patterns.at(call.number)}"] if table.lanes.names else []))
 
 
@@ -116,8 +123,8 @@ def caption_of(batch: Sequence[Item], total: int) -> str:
 def table_of(table: Table, batch: Sequence[Item]) -> Iterator[str]:
     """One table, of a batch of items."""
     columns = "".join(f'<col class="{name}">' for name in ("cn", "cl", "cg", "cw", "cc", "cr", "cs"))
-    yield (f'<div class="batch" style="--rows:{len(batch)}"><table class="calls"><caption>{caption_of(batch, len(table.run.calls))}'
-           f"</caption><colgroup>{columns}</colgroup>{head_row(table.lanes)}<tbody>\n")
+    yield (f'<table class="calls"><caption>{caption_of(batch, len(table.run.calls))}</caption><colgroup>{columns}</colgroup>'
+           f"{head_row(table.lanes)}<tbody>\n")
     after = next((item.number for item in batch if isinstance(item, Call)), len(table.run.calls) + 1)
     for item in batch:
         if isinstance(item, Call):
@@ -125,10 +132,13 @@ def table_of(table: Table, batch: Sequence[Item]) -> Iterator[str]:
             after = item.number + 1
         else:
             yield note_row(table, item, table.patterns.at(after)) + "\n"
-    yield "</tbody></table></div>\n"
+    yield "</tbody></table>"
 
 
 def tables_of(table: Table) -> Iterator[str]:
     """All tables of calls."""
-    for batch in batches(table.run):
+    for number, batch in enumerate(batches(table.run)):
+        later = number >= AT_ONCE
+        yield f'<div class="batch{" later" if later else ""}" style="--rows:{len(batch)}">' + ("<noscript>" if later else "")
         yield from table_of(table, batch)
+        yield ("</noscript>" if later else "") + "</div>\n"

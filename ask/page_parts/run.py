@@ -72,7 +72,6 @@ class Life:
 class Run:
     """A world that was played: its calls in order, and its processes by their tags."""
     world: World
-    text: bytes
     played: Played
     records: Tuple[Record, ...]
     calls: Tuple[Call, ...]
@@ -156,11 +155,11 @@ def read_calls(world: World, played: Played, records: Tuple[Record, ...]) -> Ite
         yield Call(reply.number, line, text, reply, tuple(by_call.get(reply.number, ())))
 
 
-def play_run(player: Player, world: World, text: bytes) -> Run:
+def play_run(player: Player, world: World) -> Run:
     """Plays a world; raises `Refused` where a line of it is refused."""
-    played = player.play_accepted(text)
+    played = player.play_accepted(world.text)
     records = tuple(read_records(played.trail, player.select("all", played.trail)))
     histories = Histories()
     for record in records:
         histories.add(record.members)
-    return Run(world, text, played, records, tuple(read_calls(world, played, records)), histories.lives)
+    return Run(world, played, records, tuple(read_calls(world, played, records)), histories.lives)

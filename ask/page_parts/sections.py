@@ -43,19 +43,27 @@ def head_section(run: Run, name: str, links: Mapping[str, str]) -> Iterator[str]
     yield f'<nav aria-label="Sections"><ul>{items}</ul></nav></header>\n'
 
 
+def lane_text(lanes: Lanes) -> str:
+    """What a lane is."""
+    if lanes.kind is LaneKind.NONE:
+        return "There are no lanes, since processes of many labels call."
+    if lanes.kind is LaneKind.LABEL:
+        return "Each lane is a label, since many processes call."
+    name = lanes.names[0] if lanes.names else "1@label"
+    number, _, label = name.partition("@")
+    return (f"Each lane is a process: {code(name)} is process {number} of the label {code(label)}. Its line begins where the process "
+            "starts and ends where it ends.")
+
+
 def legend(lanes: Lanes) -> Iterator[str]:
     """What the marks mean, and how the rows are read."""
-    lane = {LaneKind.PROCESS: "Each lane is a process: <code>2@public</code> is the second process of the label <code>public</code>. Its "
-                              "line begins where the process starts and ends where it ends.",
-            LaneKind.LABEL: "Each lane is a label, since many processes call.",
-            LaneKind.NONE: "There are no lanes, since processes of many labels call."}[lanes.kind]
-    yield (f'<p>Read from the top: each row is a call, in the order of the script. {lane} A place such as <code>p1</code> is what the '
-           "first name of the call's path leads to, and <code>q1</code> that of its second path. A record of the trail stands beside the "
-           "call that left it.</p>\n")
+    yield (f"<p>Read from the top: each row is a call, in the order of the script. {lane_text(lanes)} A place such as <code>p1</code> is "
+           "what the first name of the call's path leads to, and <code>q1</code> that of its second path. A record of the trail stands "
+           "beside the call that left it.</p>\n")
     marks = "".join(f'<li><span class="{name}"><i></i></span>{what}' for name, what in MARKS)
     yield (f'<ul class="legend" aria-label="Marks">{marks}<li><span class="sample unseen">grey</span>the chosen label does not see the '
-           'reply<li><span class="sample crossing">line</span>from this call on it sees nothing: the call crosses it, since a '
-           "capability carried it between what the label sees and what it does not</ul>\n")
+           'reply<li><span class="sample crossing">line</span>by a capability, the call below goes between '
+           "what the chosen label sees and what it does not. It crosses the label, which sees nothing more</ul>\n")
 
 
 CONTROLS = """\

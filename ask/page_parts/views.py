@@ -111,7 +111,7 @@ def seen_calls(run: Run, dominated: FrozenSet[str], replies: Sequence[bytes]) ->
 def view_of(player: Player, run: Run, ranks: Ranks, label: str) -> View:
     """Plays what a label sees."""
     dominated = ranks.dominated(label)
-    replies, crossed = view_lines(player, label, run.text)
+    replies, crossed = view_lines(player, label, run.world.text)
     seen = tuple(seen_calls(run, dominated, replies))
     after = seen[-1] if seen else 0
     return View(label, dominated, seen, crossing_call(player, run, label, after) if crossed else None)

@@ -10,7 +10,6 @@ import contextlib
 import html.parser
 import io
 import json
-import os
 import pathlib
 import re
 import sys
@@ -24,6 +23,7 @@ from page_parts.words import caps_of
 from worlds import UTILITIES, quoted, split_words
 
 LARGEST = 10 * 1024 * 1024
+COMPARED, ASKED = 1_000_000, 4_000_000  # bytes of an input whose rows are compared, and of which a page is made
 ALLOWED = set("""html head meta title style body header h1 p code blockquote br nav ul li a main section h2 span i b form label select option
 input button output noscript div table caption colgroup col thead tbody tr th td small script""".split())
 VOID = {"meta", "br", "col", "input"}
@@ -115,27 +115,38 @@ def compare_page(page, text, folder):
     return len(rows)
 
 
+def accepted_rows(name, text, page, folder):
+    """The number of rows of the page of an accepted input, which are compared; of a long page they are counted alone."""
+    written = page.read_text(encoding="utf-8")
+    if len(text) > COMPARED:
+        rows, calls = written.count('<tr id="call-'), int(labsys("check", given=text)[1].split()[3])
+        require(rows == calls, f"{name}: {rows} rows, {calls} calls")
+        return rows
+    try:
+        return compare_page(written, text, folder)
+    except Failure as failure:
+        raise Failure(f"{name}: {failure}") from failure
+
+
 def test_inputs(folder):
     """All examples and all inputs of the cases."""
-    world, page = folder / "world.txt", folder / "world.html"
-    accepted = refused = rows = 0
+    world, page, counts = folder / "world.txt", folder / "world.html", collections.Counter()
     for name, text in inputs():
+        accepted = labsys("check", given=text)[0] == 0
+        if accepted and len(text) > ASKED:
+            counts["left"] += 1
+            continue
         world.write_bytes(text)
         page.unlink(missing_ok=True)
         status, messages = answer("page", str(world), "--output", str(page))
-        due = labsys("check", given=text)[0]
-        has_script = re.search(rb"(?m)^ *script *$", text)
-        if due == 0:
-            require(status == 0, f"{name}: status {status}: {messages}")
-            try:
-                rows += compare_page(page.read_text(encoding="utf-8"), text, folder)
-            except Failure as failure:
-                raise Failure(f"{name}: {failure}") from failure
-            accepted += 1
-        elif has_script:
-            require(status == 2 and messages and not page.exists(), f"{name}: status {status}: {messages}")
-            refused += 1
-    return f"{accepted} pages with {rows:,} rows as played, {refused} inputs refused"
+        require(status == (0 if accepted else 2), f"{name}: status {status}: {messages}")
+        counts["accepted" if accepted else "refused"] += 1
+        if accepted:
+            counts["rows"] += accepted_rows(name, text, page, folder)
+        else:
+            require(messages and not page.exists(), f"{name}: a page of a refused input")
+    return (f"{counts['accepted']} pages with {counts['rows']:,} rows as played, {counts['refused']} inputs refused, {counts['left']} of "
+            "16 MiB left out")
 
 
 HOSTILE = b"""# </script><script>window.hacked=1</script> <!-- \xe2\x80\xae \x01 &amp; caf\xc3\xa9 \xff
@@ -181,8 +192,8 @@ def test_words(folder):
     status, _, messages = labask("--labsys", "/nonexistent/labsys", "page", example)
     require(status == 70 and messages, "a missing program")
     bare = folder / "bare.txt"
-    bare.write_text(pathlib.Path(example).read_text(encoding="ascii").split("\nscript\n")[0] + "\n", encoding="ascii")
-    require(read_page(make_page(bare, folder).read_text(encoding="utf-8")).rows == [], "a world without a script")
+    bare.write_text(pathlib.Path(example).read_text(encoding="ascii").split("\nscript\n")[0] + "\nscript\n", encoding="ascii")
+    require(read_page(make_page(bare, folder).read_text(encoding="utf-8")).rows == [], "a world without calls")
     return "words of the command line"
 
 
@@ -237,7 +248,7 @@ def lane_names(page):
 
 def test_lanes(folder):
     """Lanes of processes, lanes of labels where there are many processes, and none where there are many labels."""
-    for processes, labels, kind in ((40, 4, LaneKind.PROCESS), (60, 20, LaneKind.LABEL), (100, 60, LaneKind.NONE)):
+    for processes, labels, kind in ((32, 4, LaneKind.PROCESS), (60, 20, LaneKind.LABEL), (100, 60, LaneKind.NONE)):
         text, tags, _ = world_of_many(processes, labels)
         world = folder / "many.txt"
         world.write_bytes(text)

@@ -13,7 +13,7 @@ from urllib.parse import quote
 
 from browser import Browser, BrowserFault, Unavailable
 from page_inputs import EXAMPLES, Failure, labsys, make_page, reply_lines, require, trail_of
-from test_page import HOSTILE
+from test_page import HOSTILE, world_of_many
 
 from page_parts.words import caps_of
 from worlds import UTILITIES, quoted, read_world, split_words
@@ -21,6 +21,7 @@ from worlds import UTILITIES, quoted, read_world, split_words
 # worlds whose labels are all chosen, and whose calls are all picked
 CHOSEN = ("backup_for_all", "lesson", "login", "relabelling", "utilities", "fetched_program", "names_of_a_vault", "drops_capability")
 GENERATED = 10_000
+LABELS = {"hostile": "unc", "many": "l1:c0", "fetched_program": "public", "names_of_a_vault": "unc", "drops_capability": "unc"}
 
 # the rows that are not greyed, each with its process, what it asks for and its reply; and where the crossing stands
 SEEN = """[...document.querySelectorAll('tr[id^="call-"]:not(.unseen)')].map(row =>
@@ -36,6 +37,7 @@ DETAIL = """(() => {
     script: terms.Script.querySelector("code").textContent };
 })()"""
 GREY = """[...document.querySelectorAll("tbody[data-tag]")].map(life => [life.dataset.tag, life.classList.contains("unseen")])"""
+WHOLE = "new Promise(done => { const look = () => document.querySelector('.later') ? setTimeout(look, 20) : done(); look(); })"
 HASH = "(async () => { location.hash = %s; await new Promise(done => setTimeout(done)); })()"
 
 # elements with text whose contrast to their background is below 4.5, but for what is greyed
@@ -71,6 +73,8 @@ OVERLAPS = """(() => {
   }
   for (const cell of document.querySelectorAll("td:not(.g), th:not(.g), h1, h2, p, li, option, output, button"))
     if (cell.scrollWidth > cell.clientWidth + 1 && cell.clientWidth) found.push(cell.tagName + " " + cell.textContent.slice(0, 60));
+  for (const cell of document.querySelectorAll(".calls thead th:not(.g)"))
+    if (cell.getBoundingClientRect().width < 50) found.push("narrow column " + cell.textContent);
   const blocks = [...document.querySelectorAll("main > section, header")].map(block => block.getBoundingClientRect());
   blocks.forEach((box, index) => { if (index && box.top + 0.5 < blocks[index - 1].bottom) found.push("sections"); });
   if (document.documentElement.scrollWidth > innerWidth) found.push("the page is wider than the window");
@@ -216,36 +220,44 @@ def test_without_scripts(browser, folder):
     for line in reply_lines(labsys("play", "/dev/null", given=text)[1]):
         require(all(word in shown for word in line.split(" ")), f"the page without scripts lacks {line}")
     require("Scripts are off" in shown and "See as label" not in shown, "what is shown without scripts")
+    world = folder / "long.txt"
+    world.write_bytes(labsys("gen", "1000")[1])
+    page.open(make_page(world, folder))
+    require(list(as_lines(page.evaluate(SEEN))) == reply_lines(labsys("play", "/dev/null", given=world.read_bytes())[1]), "rows of 1,000 calls")
     return "all rows without scripts"
 
 
 def test_print(browser, folder):
     """The printed page: no controls, all rows, and the choice kept."""
     world = folder / "long.txt"
-    world.write_bytes(labsys("gen", "300")[1])
+    world.write_bytes(labsys("gen", "1000")[1])
     page = browser.page()
     page.open(make_page(world, folder), "#label=l1")
+    page.evaluate("dispatchEvent(new Event('beforeprint'))")
     page.media("print")
     require(not page.evaluate("document.getElementById('label').checkVisibility()"), "controls are printed")
     require("l1 sees" in page.evaluate("document.getElementById('said').innerText"), "the label that was chosen is not printed")
     heights = page.evaluate("[...document.querySelectorAll('tr[id^=call-]')].filter(row => row.getBoundingClientRect().height > 5).length")
-    require(heights == 300, f"{heights} rows are printed")
-    require(page.evaluate("document.querySelectorAll('tr.unseen').length") > 0, "the choice is not printed")
+    require(heights == 1000, f"{heights} rows are printed")
+    require(list(as_lines(page.evaluate(SEEN))) == reply_lines(labsys("view", "l1", given=world.read_bytes())[1]), "what is grey in print")
     pages = len(re.findall(rb"/Type\s*/Page\b", page.printed()))
-    require(pages > 3, f"{pages} printed pages")
-    return f"300 calls on {pages} printed pages"
+    require(pages > 10, f"{pages} printed pages")
+    return f"1,000 calls on {pages} printed pages"
 
 
 def test_looks(browser, folder):
     """Contrast, and no text over another, in light and dark, wide and narrow, for examples and for a hostile world."""
     hostile = folder / "hostile.txt"
     hostile.write_bytes(HOSTILE)
-    worlds = [EXAMPLES / f"{name}.txt" for name in CHOSEN] + [hostile]
+    many = folder / "many.txt"
+    many.write_bytes(world_of_many(32, 4)[0])
+    worlds = [EXAMPLES / f"{name}.txt" for name in CHOSEN] + [hostile, many]
     for world in worlds:
         path, page = make_page(world, folder), browser.page()
         for scheme in ("light", "dark"):
             page.media(prefers_color_scheme=scheme)
-            page.open(path, "#label=" + ("unc" if world == hostile else "public") + "&call=2")
+            page.open(path, f"#label={LABELS.get(world.stem, 'public')}&call=2")
+            require(page.evaluate("document.querySelectorAll('.unseen, .picked').length") > 0, f"{world.name}: nothing is chosen")
             require(page.evaluate(CONTRAST) == [], f"{world.name}, {scheme}: contrast of {page.evaluate(CONTRAST)}")
             require((page.evaluate("getComputedStyle(document.body).backgroundColor") == "rgb(255, 255, 255)") == (scheme == "light"), scheme)
         for width in (1200, 1600, 700, 400):
@@ -257,19 +269,22 @@ def test_looks(browser, folder):
 
 
 def test_large(browser, folder):
-    """A page of many calls: a label and a call chosen by its controls."""
+    """A page of many calls: a label and a call chosen by its controls as soon as it is open, before all tables are made."""
     world = folder / "generated.txt"
     world.write_bytes(labsys("gen", str(GENERATED))[1])
     page, text = browser.page(), read_world(world.read_bytes())
     page.open(make_page(world, folder))
     page.evaluate("(() => { const label = document.getElementById('label'); label.value = 'l1'; label.dispatchEvent(new Event('change')); })()")
-    compare_label(page, text, "l1")
+    seen, view = list(as_lines(page.evaluate(SEEN))), reply_lines(labsys("view", "l1", given=text.text)[1])
+    require(seen and (seen == view[: len(seen)]), "the first rows differ from the view")
     page.evaluate("(() => { const call = document.getElementById('call'); call.value = 7777; call.dispatchEvent(new Event('input')); })()")
     lines = reply_lines(labsys("play", "/dev/null", given=text.text)[1])
     compare_call(page, text, 7777, lines, trail_of(text.text, folder))
     inside = page.evaluate("(() => { const box = document.getElementById('call-7777').getBoundingClientRect(); "
                            "return box.top >= 0 && box.bottom <= innerHeight; })()")
     require(inside, "the picked call is not in sight")
+    page.evaluate(WHOLE)
+    compare_label(page, text, "l1")
     return f"a label and a call of {GENERATED:,}"
 
 
