@@ -19,9 +19,9 @@ def write_json(value: Any) -> None:
 
 def table(rows: Iterable[Sequence[str]], indent: str = "") -> List[str]:
     """The lines of a table with columns as wide as their widest cell, two spaces between them and none at the end."""
-    rows = [list(row) for row in rows]
-    widths = [max(len(cell) for cell in column) for column in zip(*rows)]
-    return [(indent + "  ".join(cell.ljust(width) for cell, width in zip(row, widths))).rstrip() for row in rows]
+    rows = list(rows)
+    form = indent + "  ".join(f"{{:<{max(map(len, column))}}}" for column in zip(*rows))
+    return [form.format(*row).rstrip() for row in rows]
 
 
 class Progress:

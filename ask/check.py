@@ -40,9 +40,15 @@ def add_arguments(parser: argparse.ArgumentParser) -> None:
     parser.add_argument("file", metavar="FILE", help="the world, with or without a script; - is standard input")
 
 
+def first_lines(text: bytes, count: int) -> bytes:
+    """The first so many lines of a text."""
+    pieces = text.split(b"\n", count)
+    return text if len(pieces) <= count else text[:len(text) - len(pieces[count])]
+
+
 def explanation(text: bytes, refusal: Refusal) -> Explanation:
     """What is wrong with the line of a refusal."""
-    world = read_world(text)
+    world = read_world(first_lines(text, refusal.line))
     finding = explain_line(world, refusal.line, refusal.part, refusal.word)
     shown = world.lines[refusal.line - 1].text if refusal.line <= len(world.lines) else b""
     return Explanation(refusal.line, finding.message, shown, finding.column, finding.length)
@@ -129,8 +135,8 @@ def answer(arguments: argparse.Namespace, player: Player) -> int:
         else:
             print("\n".join(explain(text, refused.refusal, arguments.file)))
         return REFUSED
-    world = read_world(text)
-    missing = list(without_process(world, player.play_accepted(text), player)) if calls else []
+    played = player.play_accepted(text) if calls else None
+    missing = list(without_process(read_world(text), played, player)) if played and b" ESRCH\n" in played.out else []
     if arguments.json:
         write_json({"accepted": True, "objects": objects, "processes": processes, "calls": calls,
                     "no_process": [{"line": each.line, "call": each.reply.number, "process": each.missing, "living": each.living}

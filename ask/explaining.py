@@ -294,7 +294,7 @@ def world_findings(world: World, line: Line) -> Iterator[Finding]:
     yield from line_findings(line)
     if not line.words:
         return
-    before = [each.words[0].text for each in world.lines[: line.number - 1] if not each.blank and each.words]
+    before = [each.words[0].text for each in world.lines.filled() if each.number < line.number]
     due: List[Tuple[str, ...]] = [("levels",), ("categories",), ("grades", "bound")] + ([("bound",)] if "grades" in before[:4] else [])
     if not before:
         yield from format_findings(line)

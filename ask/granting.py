@@ -1,23 +1,30 @@
 """Tries a denied call again with capabilities that the caller has not: in worlds where the caller is permitted them."""
-from dataclasses import dataclass
-from typing import Any, Dict, FrozenSet, Iterable, List, Optional, Sequence, Set, Tuple
+from dataclasses import dataclass, replace
+from typing import Any, Dict, FrozenSet, Iterable, List, Optional, Sequence, Tuple
 
 from capability_texts import Sets, read_sets
 from playing import Outcome, Player, Reply, Session
-from signatures import CAPABILITIES
+from signatures import CAPABILITIES, arguments_of
 from worlds import ScriptLine, World, quoted
 
 
 @dataclass(frozen=True)
 class Passing:
-    """The capabilities with which a call is made, and its reply then; `complete` tells that no check denies it then."""
+    """The capabilities that are made effective for a call, its reply then, and those that the caller is only permitted besides."""
     capabilities: Tuple[str, ...]
     reply: Reply
+    permitted: Tuple[str, ...] = ()
 
     @property
     def complete(self) -> bool:
         """Whether no check denies the call with these capabilities."""
         return self.reply.outcome is not Outcome.DENIED
+
+    @property
+    def names(self) -> str:
+        """The capabilities in words."""
+        permitted = [f"{name} permitted" for name in self.permitted]
+        return " and ".join([*self.capabilities, *permitted])
 
 
 @dataclass(frozen=True)
@@ -83,35 +90,31 @@ class Trial:
         self.session = Session(player, granting_head(world, self.lineage, names))
         self.session.__enter__()
         self.reached = 0  # lines of the script that were played
-        self.spent = False
+        self.spent = self.departed = False
 
     def close(self) -> None:
         """Ends the run."""
         self.session.__exit__(None, None, None)
 
-    def line_text(self, line: ScriptLine) -> str:
-        """A line of the script, where those that set the capability sets of the lineage keep what is permitted besides."""
-        text = line.text
+    def line_text(self, line: ScriptLine, call: int) -> str:
+        """The line of a call, where those that set the capability sets of the lineage keep what is permitted besides."""
         if line.call != "cap_set_proc" or line.tag not in self.lineage.processes:
-            return text
+            return line.single(call)
         return f"{line.tag} cap_set_proc {quoted((line.arguments[0].text + ' ' + ','.join(self.names) + '+p').encode('latin-1'))}"
 
-    def advance(self, line: ScriptLine, replies: Sequence[Reply]) -> bool:
-        """Plays the script up to a line; says whether all replies on the way are as in the run itself."""
-        waiting = [each for each in self.world.script[self.reached:] if each.line.number < line.line.number]
-        self.reached += len(waiting)
-        given: List[Reply] = []
-        simple: List[str] = []
-        for each in waiting:
-            if each.calls == 1:
-                simple.append(self.line_text(each))
-                continue
-            given += self.session.calls(simple)
-            given += self.session.line(self.line_text(each), each.calls)
-            simple = []
-        given += self.session.calls(simple)
-        due = replies[waiting[0].first_call - 1:] if waiting else []
-        return all(same(one, other) for one, other in zip(given, due))
+    def advance(self, line: ScriptLine, call: int, replies: Sequence[Reply]) -> bool:
+        """Plays what was done before a call; says whether it is answered as in the run itself. What was not done left no change."""
+        waiting: List[Tuple[str, Reply]] = []
+        while self.reached < len(self.world.script) and self.world.script[self.reached].line.number <= line.line.number:
+            each = self.world.script[self.reached]
+            numbers = range(each.first_call, min(call, each.first_call + each.calls))
+            done = (replies[number - 1] for number in numbers if replies[number - 1].outcome is Outcome.DONE)
+            waiting += [(self.line_text(each, reply.number), reply) for reply in done]
+            if each is line:
+                break
+            self.reached += 1
+        given = self.session.calls([text for text, _ in waiting])
+        return all(same(one, other) for one, (_, other) in zip(given, waiting))
 
     def raised(self, sets: Sets, names: Iterable[str]) -> bool:
         """Makes these capabilities effective besides those of the sets; says whether that was done."""
@@ -130,9 +133,10 @@ class Trial:
         if asked.outcome is not Outcome.DONE:
             return None
         sets = read_sets(asked.words[0].text)
-        best: Optional[Passing] = None
-        held: Tuple[str, ...] = ()
-        last = denied
+        last = self.attempt(text)
+        best, held = None if same(last, denied) else Passing((), last), ()
+        if best is not None and best.complete:
+            return best
         while True:
             step = self.step(sets, held, text, last)
             if step is None:
@@ -173,7 +177,7 @@ class Trials:
     def trial(self, line: ScriptLine) -> Trial:
         """A trial for the caller of a line that has not gone past it."""
         found = self.open.pop(line.tag, None)
-        if found is not None and (found.spent or found.reached > self.world.script.index(line)):
+        if found is not None and found.spent:
             found.close()
             found = None
         if found is None:
@@ -185,30 +189,39 @@ class Trials:
 
     def passing(self, line: ScriptLine, denied: Reply) -> Optional[Passing]:
         """The capabilities that would have let a denied call pass, found by trying; None where none was found."""
-        text = line.single(denied.number)
         trial = self.trial(line)
+        found = self.tried(trial, line, denied)
+        if trial.departed:
+            alone = (self.alone(line, denied, (name,)) for name in CAPABILITIES)
+            found = next((each for each in alone if each is not None), None)
+        elif found is not None and "CAPS" in arguments_of(line.call, len(line.arguments)):
+            return self.reduced(line, denied, found)
+        return None if found is None or not found.capabilities else found
+
+    def tried(self, trial: Trial, line: ScriptLine, denied: Reply) -> Optional[Passing]:
+        """What a trial finds that is played up to the call."""
         trial.spent = line.calls > 1  # the line is played in part
-        if trial.advance(line, self.replies) and self.before(trial, line, denied):
-            return trial.passing(text, denied)
-        trial.spent = True
+        if not trial.advance(line, denied.number, self.replies):
+            trial.departed = trial.spent = True
+            return None
+        return trial.passing(line.single(denied.number), denied)
+
+    def alone(self, line: ScriptLine, denied: Reply, names: Sequence[str]) -> Optional[Passing]:
+        """What a trial of its own finds with some capabilities."""
+        trial = Trial(self.world, self.player, line.tag, names, self.records)
+        try:
+            return self.tried(trial, line, denied)
+        finally:
+            trial.close()
+
+    def reduced(self, line: ScriptLine, denied: Reply, found: Passing) -> Passing:
+        """Of a call that asks for capabilities: the same with as few permitted as it takes."""
+        permitted = list(CAPABILITIES)
         for name in CAPABILITIES:
-            alone = Trial(self.world, self.player, line.tag, (name,), self.records)
-            try:
-                found = self.alone(alone, line, denied, text)
-            finally:
-                alone.close()
-            if found:
-                return found
-        return None
-
-    def before(self, trial: Trial, line: ScriptLine, denied: Reply) -> bool:
-        """Plays the calls of a utility before the denied one; says whether they are answered as in the run itself."""
-        texts = [line.single(reply.number) for reply in self.replies[line.first_call - 1:denied.number - 1]]
-        given = trial.session.calls(texts)
-        return all(same(one, other) for one, other in zip(given, self.replies[line.first_call - 1:]))
-
-    def alone(self, trial: Trial, line: ScriptLine, denied: Reply, text: str) -> Optional[Passing]:
-        """As `passing`, by a trial of one capability."""
-        if trial.advance(line, self.replies) and self.before(trial, line, denied):
-            return trial.passing(text, denied)
-        return None
+            fewer = [each for each in permitted if each != name]
+            if name in found.capabilities or not fewer:
+                continue
+            again = self.alone(line, denied, fewer)
+            if again is not None and again.capabilities == found.capabilities and same(again.reply, found.reply):
+                permitted = fewer
+        return replace(found, permitted=tuple(name for name in permitted if name not in found.capabilities))

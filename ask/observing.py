@@ -1,14 +1,16 @@
-"""A run that is asked about as it goes: an observer of a label of its own looks at objects, and processes are asked about themselves.
+"""A run that is asked about as it goes: an observer looks at objects, and processes are asked about themselves.
 
 The observer reads everything by capabilities. Its label is one that nothing else of the world has, so it draws no number that the
 script would draw, and no reply to the script changes; `Observed.play` compares them.
 """
 import dataclasses
 from dataclasses import dataclass, field
-from typing import Dict, Iterator, List, Optional, Tuple
+from typing import Dict, Iterator, Optional, Tuple
 
+from capability_texts import read_sets
 from playing import Outcome, Player, PlayingFault, Reply, Session
-from worlds import MAX_LINE, ScriptLine, World, canonical_path, path_word
+from signatures import CAPABILITIES
+from worlds import MAX_LINE, ScriptLine, World, canonical_path, path_word, quoted
 
 OBSERVER_CAPS = "cap_dac_read_search,cap_mac_read=ep"
 
@@ -22,7 +24,7 @@ class NoObserver(PlayingFault):
 
 @dataclass(frozen=True)
 class ObjectFacts:
-    """An object at a moment: its path (None where no name leads to it), its number n@label, and what `stat` answers."""
+    """An object at a moment: its path, or None where no name leads to it, its number n@label, and what `stat` answers."""
     path: Optional[bytes]
     number: str
     kind: str = ""
@@ -52,7 +54,14 @@ class ProcessFacts:
         user, effective, saved, group, effective_group, saved_group, groups = self.ids
         users = user if user == effective == saved else f"{effective} (real {user}, saved {saved})"
         group_text = group if group == effective_group == saved_group else f"{effective_group} (real {group}, saved {saved_group})"
-        return f"{self.tag}: label {self.label}, user {users}, group {group_text}, groups {groups}, capabilities {self.caps}"
+        return f"{self.tag}: label {self.label}, user {users}, group {group_text}, groups {groups}, {self.caps_text}"
+
+    @property
+    def caps_text(self) -> str:
+        """The effective capabilities in words, with the sets where they have more."""
+        effective = read_sets(self.caps).effective
+        names = ",".join(name for name in CAPABILITIES if name in effective) or "none"
+        return f"effective capabilities {names}" + ("" if self.caps in ("=", f"{names}=ep") else f" of {quoted(self.caps.encode())}")
 
 
 @dataclass
@@ -148,7 +157,7 @@ class Observed:
         if any(reply.outcome is not Outcome.DONE for reply in replies):
             return None
         label, ids, caps = (tuple(word.text for word in reply.words) for reply in replies)
-        return ProcessFacts(tag, label[0], ids, caps[0] if caps[0] != "=" else "none")
+        return ProcessFacts(tag, label[0], ids, caps[0])
 
     def absolute(self, tag: str, path: bytes) -> Optional[bytes]:
         """The absolute path that a path of a process stands for; None where its current directory has no path."""
@@ -163,7 +172,7 @@ class Observed:
         if reply.place == "fd":
             opened = self.followed[line.tag].descriptors.get(int(line.arguments[0].value))
             return self.descriptor(line, opened) if opened else None
-        if reply.place[0] not in "pq":
+        if not reply.place[1:].isdigit():
             return None
         given = reply.path if reply.path is not None else line.arguments[reply.place[0] == "q"].value
         return self.on_walk(line.tag, given, int(reply.place[1:]))

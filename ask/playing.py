@@ -3,7 +3,6 @@ import enum
 import json
 import os
 import pathlib
-import re
 import shutil
 import subprocess
 import tempfile
@@ -137,15 +136,21 @@ class Player:
 
     def run(self, words: Sequence[str], text: bytes) -> Tuple[int, bytes, bytes]:
         """The exit status of a command of `labsys`, its output, and its messages. A status other than 0, 2 and 7 is a fault."""
-        try:
-            done = subprocess.run([*self.program, *words], input=text, stdout=subprocess.PIPE, stderr=subprocess.PIPE, check=False)
-        except OSError as fault:
-            raise PlayingFault(f"{self.program[0]}: {fault.strerror}") from fault
+        with tempfile.TemporaryFile() as given, tempfile.TemporaryFile() as out, tempfile.TemporaryFile() as messages:
+            given.write(text)
+            given.seek(0)
+            try:
+                done = subprocess.run([*self.program, *words], stdin=given, stdout=out, stderr=messages, check=False)
+            except OSError as fault:
+                raise PlayingFault(f"{self.program[0]}: {fault.strerror}") from fault
+            out.seek(0)
+            messages.seek(0)
+            written, said = out.read(), messages.read()
         self.plays += 1
         if done.returncode not in ANSWERED:
-            said = done.stderr.decode("latin-1").strip().split("\n")[-1]
-            raise PlayingFault(f"{self.program[0]} ended with status {done.returncode}" + (f": {said}" if said else ""))
-        return done.returncode, done.stdout, done.stderr
+            last = said.decode("latin-1").strip().split("\n")[-1]
+            raise PlayingFault(f"{self.program[0]} ended with status {done.returncode}" + (f": {last}" if last else ""))
+        return done.returncode, written, said
 
     def play(self, text: bytes) -> Played:
         """Plays a world with its script. A refused text is no fault: `refusal` of the answer has it."""
@@ -179,7 +184,7 @@ class Player:
         status, out, messages = self.run(["select", spec], trail)
         if status != STATUS_ACCEPTED:
             raise Refused(trail, Played(status, out, b"", messages).refusal)
-        return [json.loads(line) for line in out.decode("ascii").split("\n")[:-2]]
+        return json.loads("[" + ",".join(out.decode("ascii").split("\n")[:-2]) + "]")
 
 
 class Session:

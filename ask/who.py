@@ -5,9 +5,10 @@ is closed, a directory that is made is removed, and a child executes and ends.
 """
 import argparse
 import enum
+import functools
+import itertools
 from collections import Counter
-from dataclasses import dataclass
-from typing import Any, Dict, Iterable, Iterator, List, Optional, Sequence, Set, Tuple
+from typing import Any, Dict, Iterable, Iterator, List, NamedTuple, Optional, Sequence, Set, Tuple
 
 from answers import PLAYED, Progress, WrongWords, table, write_json
 from playing import Outcome, Player, Played, Reply, read_reply
@@ -42,19 +43,27 @@ RIGHTS = {
 }
 
 
-@dataclass(frozen=True)
-class Probe:
-    """A right to be asked for: the lines of its calls, and which of them answers. `child` tells that the first one forks."""
-    process: WorldProcess
+class Form(NamedTuple):
+    """How a right to an object is asked for: the calls, each with whether a child makes it, and which of them answers."""
+    right: Right
+    calls: Tuple[Tuple[bool, str], ...]
+    asked: int = 0
+
+    @property
+    def forks(self) -> bool:
+        """Whether a child is made."""
+        return any(child for child, _ in self.calls)
+
+
+class Probe(NamedTuple):
+    """A right that a process is asked for, and the index of the line that answers it; None where it can't be asked for."""
+    process: str
     target: WorldObject
     right: Right
-    lines: Tuple[str, ...]
-    asked: int = 0
-    child: bool = False
+    index: Optional[int]
 
 
-@dataclass(frozen=True)
-class Answer:
+class Answer(NamedTuple):
     """A right with its answer: the capabilities that were exercised, or the check that denies and the path of its object."""
     process: str
     path: bytes
@@ -91,6 +100,7 @@ def add_arguments(parser: argparse.ArgumentParser) -> None:
     parser.add_argument("--process", metavar="PROCESS", action="append", help="a process to ask about, n@label; all by default")
 
 
+@functools.lru_cache(maxsize=65_536)
 def prefix_path(path: bytes, names: int) -> bytes:
     """The path of the first so many names of an absolute path."""
     return b"/" + b"/".join(path.strip(b"/").split(b"/")[:names]) if names else b"/"
@@ -117,61 +127,73 @@ class Namer:
         return f"new{number}"
 
 
-def probe_of(process: WorldProcess, target: WorldObject, right: Right, namer: Namer) -> Probe:
-    """The calls that ask for a right. The child of a fork stands as {child}."""
-    tag, path = process.tag, path_word(target.path)
-    if right is Right.EXECUTE:
-        lines = (f"{tag} fork", f"{{child}} exec {path}", "{child} exit 0", f"{tag} wait")
-        return Probe(process, target, right, lines, 1, True)
-    if right is Right.LIST:
-        return Probe(process, target, right, (f"{tag} readdir {path}",))
+def forms_of(target: WorldObject, namer: Namer) -> Iterator[Form]:
+    """How the rights to an object are asked for."""
+    path = path_word(target.path)
     if target.kind is Kind.DIRECTORY:
         inside = path_word(join_path(target.path, namer.name(target.path)))
-        lines = (f"{tag} stat {inside}",) if right is Right.SEARCH else (f"{tag} mkdir {inside} 0700", f"{tag} rmdir {inside}")
-        return Probe(process, target, right, lines)
-    return Probe(process, target, right, (f"{tag} open {path} {'r' if right is Right.READ else 'w'}", f"{tag} close 0"))
+        yield Form(Right.LIST, ((False, f"readdir {path}"),))
+        yield Form(Right.SEARCH, ((False, f"stat {inside}"),))
+        yield Form(Right.WRITE, ((False, f"mkdir {inside} 0700"), (False, f"rmdir {inside}")))
+        return
+    for right, flags in ((Right.READ, "r"), (Right.WRITE, "w")):
+        yield Form(right, ((False, f"open {path} {flags}"), (False, "close 0")))
+    if target.kind is Kind.FILE:
+        yield Form(Right.EXECUTE, ((False, "fork"), (True, f"exec {path}"), (True, "exit 0")), 1)
 
 
-def can_be_asked(probe: Probe) -> bool:
-    """Whether the lines of a probe are short enough, and their paths have few enough names."""
-    inside = probe.target.kind is Kind.DIRECTORY and probe.right is not Right.LIST
-    names, size = probe.target.path.count(b"/") + inside, len(probe.target.path) + 8 * inside
-    return names <= MAX_NAMES and size <= MAX_PATH and max(map(len, probe.lines)) + len(probe.process.tag) < MAX_LINE
+def can_be_asked(form: Form, target: WorldObject, longest_tag: int) -> bool:
+    """Whether the lines of a form are short enough, and their paths have few enough names."""
+    inside = target.kind is Kind.DIRECTORY and form.right is not Right.LIST
+    names, size = target.path.count(b"/") + inside, len(target.path) + 8 * inside
+    return names <= MAX_NAMES and size <= MAX_PATH and max(len(call) for _, call in form.calls) + longest_tag < MAX_LINE
 
 
-@dataclass
 class Batch:
     """The probes of one play, the lines of its script, and the numbers that it draws of each label at most."""
-    probes: List[Tuple[Probe, int]]
-    lines: List[str]
-    size: int
-    children: Counter
-    drawn: Counter
 
+    def __init__(self, world: World):
+        self.probes: List[Probe] = []
+        self.lines: List[str] = []
+        self.size = 0
+        self.living = Counter(each.label for each in world.processes)
+        self.drawn = Counter(each.label for each in world.objects)
 
-def batches_of(world: World, probes: Iterable[Probe]) -> Iterator[Batch]:
-    """The probes in as few plays as the limits of an input and of the numbers of a label allow."""
-    processes, objects = Counter(each.label for each in world.processes), Counter(each.label for each in world.objects)
-    batch = Batch([], [], 0, Counter(), Counter())
-    for probe in probes:
-        label, size = probe.process.label, sum(map(len, probe.lines)) + 8 * len(probe.lines)
-        full = batch.size + size > PLAY_BYTES or batch.drawn[label] + objects[label] >= MAX_DRAWN or \
-            (probe.child and batch.children[label] + processes[label] >= MAX_CHILDREN)
-        if full and batch.lines:
-            yield batch
-            batch = Batch([], [], 0, Counter(), Counter())
-        lines = probe.lines
-        if probe.child:
-            batch.children[label] += 1
-            child = f"{processes[label] + batch.children[label]}@{label}"
-            lines = [line.replace("{child}", child, 1) for line in lines]
+    def has_room(self, label: str, forks: bool) -> bool:
+        """Whether one more form fits, asked by a process of a label."""
+        return self.size < PLAY_BYTES and self.drawn[label] < MAX_DRAWN and not (forks and self.living[label] >= MAX_CHILDREN)
+
+    def add(self, process: WorldProcess, target: WorldObject, form: Form) -> None:
+        """Adds a form, asked by a process."""
+        tag, child, label = process.tag, "", process.label
+        self.probes.append(Probe(tag, target, form.right, len(self.lines) + form.asked))
+        if form.right is Right.EXECUTE:
+            self.living[label] += 1
+            child = f"{self.living[label]}@{label}"
         else:
-            batch.drawn[label] += 1
-        batch.probes.append((probe, len(batch.lines) + probe.asked))
-        batch.lines += lines
-        batch.size += size
-    if batch.lines:
-        yield batch
+            self.drawn[label] += 1
+        lines = [f"{child if by_child else tag} {call}" for by_child, call in form.calls]
+        self.lines += lines
+        self.size += sum(map(len, lines))
+
+
+def batches_of(world: World, processes: Sequence[WorldProcess], objects: Sequence[WorldObject]) -> Iterator[Batch]:
+    """The probes in as few plays as the limits of an input and of the numbers of a label allow."""
+    namer, batch = Namer(world), Batch(world)
+    full = {each.label for each in processes if not batch.has_room(each.label, True)}
+    longest = max((len(each.tag) for each in processes), default=0) + 4
+    for target in objects:
+        forms = [(form, form.forks, can_be_asked(form, target, longest)) for form in forms_of(target, namer)]
+        for process in processes:
+            for form, forks, askable in forms:
+                if not askable or (forks and process.label in full):
+                    batch.probes.append(Probe(process.tag, target, form.right, None))
+                    continue
+                if not batch.has_room(process.label, forks):
+                    yield batch
+                    batch = Batch(world)
+                batch.add(process, target, form)
+    yield batch
 
 
 def exercises_of(played: Played, player: Player) -> Dict[int, List[str]]:
@@ -186,13 +208,12 @@ def exercises_of(played: Played, player: Player) -> Dict[int, List[str]]:
 
 def answer_of(probe: Probe, reply: Reply, used: Sequence[str]) -> Answer:
     """The answer of a reply: it is yes where the call was done, or only the name that was looked up is absent."""
-    allowed = reply.outcome is Outcome.DONE or (probe.right is Right.SEARCH and reply.error == "ENOENT")
-    names = (probe.process.tag, probe.target.path, probe.right)
-    if allowed:
-        return Answer(*names, Access.CAPABILITY if used else Access.RULES, tuple(used))
+    tag, target, right, _ = probe
+    if reply.outcome is Outcome.DONE or (right is Right.SEARCH and reply.error == "ENOENT"):
+        return Answer(tag, target.path, right, Access.CAPABILITY if used else Access.RULES, tuple(used))
     if reply.outcome is Outcome.DENIED:
-        return Answer(*names, Access.DENIED, (), reply.check, prefix_path(probe.target.path, int(reply.place[1:])))
-    return Answer(*names, Access.NOT_ASKED if reply.error == "ESRCH" else Access.DENIED, (), reply.error, None)
+        return Answer(tag, target.path, right, Access.DENIED, (), reply.check, prefix_path(target.path, int(reply.place[1:])))
+    return Answer(tag, target.path, right, Access.DENIED, (), reply.error)
 
 
 def played_answers(world: World, batch: Batch, player: Player) -> Iterator[Answer]:
@@ -200,12 +221,15 @@ def played_answers(world: World, batch: Batch, player: Player) -> Iterator[Answe
     played = player.play_accepted(world.with_script(batch.lines))
     used, replies = exercises_of(played, player), played.out.split(b"\n")
     read: Dict[bytes, Reply] = {}
-    for probe, index in batch.probes:
-        rest = replies[index].split(b" ", 2)[2][:80]
+    for probe in batch.probes:
+        if probe.index is None:
+            yield Answer(probe.process, probe.target.path, probe.right, Access.NOT_ASKED)
+            continue
+        rest = replies[probe.index].split(b" ", 2)[2]
+        rest = b"ok" if rest.startswith(b"ok") else rest
         if rest not in read:
-            kept = b"ok" if rest.startswith(b"ok") else rest
-            read[rest] = read_reply(0, split_words(b"1@x call " + kept)[0])
-        yield answer_of(probe, read[rest], used.get(index + 1, ()))
+            read[rest] = read_reply(0, split_words(b"1@x call " + rest)[0])
+        yield answer_of(probe, read[rest], used.get(probe.index + 1, ()))
 
 
 def chosen(world: World, paths: Sequence[str], tags: Optional[Sequence[str]]) -> Tuple[List[WorldProcess], List[WorldObject]]:
@@ -228,31 +252,23 @@ def chosen(world: World, paths: Sequence[str], tags: Optional[Sequence[str]]) ->
 
 def ask(world: World, processes: Sequence[WorldProcess], objects: Sequence[WorldObject], player: Player) -> Iterator[Answer]:
     """The answers for all rights of the processes to the objects, by object, process and right."""
-    namer = Namer(world)
-    total = len(processes) * sum(len(RIGHTS[each.kind]) for each in objects)
-    progress, done = Progress("who", total), 0
-    probes = [probe_of(process, target, right, namer) for target in objects for process in processes for right in RIGHTS[target.kind]]
-    skipped = {id(probe) for probe in probes if not can_be_asked(probe)}
-    answers: Dict[int, Answer] = {}
-    for batch in batches_of(world, (probe for probe in probes if id(probe) not in skipped)):
-        for (probe, _), found in zip(batch.probes, played_answers(world, batch, player)):
-            answers[id(probe)] = found
+    progress, done = Progress("who", len(processes) * sum(len(RIGHTS[each.kind]) for each in objects)), 0
+    for batch in batches_of(world, processes, objects):
+        yield from played_answers(world, batch, player)
         done += len(batch.probes)
         progress.reached(done)
     progress.end()
-    for probe in probes:
-        unasked = Answer(probe.process.tag, probe.target.path, probe.right, Access.NOT_ASKED)
-        yield answers.get(id(probe), unasked)
 
 
 def rows_of(answers: Iterable[Answer]) -> Iterator[List[str]]:
     """The rows of the table: an object and a process, with a cell for each right."""
-    rows: Dict[Tuple[bytes, str], Dict[Right, str]] = {}
-    for each in answers:
-        rows.setdefault((each.path, each.process), {})[each.right] = each.text
+    columns = {right: column for column, right in enumerate(Right, 2)}
     yield ["OBJECT", "PROCESS", *(right.name for right in Right)]
-    for (path, process), cells in rows.items():
-        yield [path_word(path), process, *(cells.get(right, "-") for right in Right)]
+    for (path, process), cells in itertools.groupby(answers, lambda each: each[:2][::-1]):
+        row = [path_word(path), process] + ["-"] * len(columns)
+        for cell in cells:
+            row[columns[cell.right]] = cell.text
+        yield row
 
 
 def answer(arguments: argparse.Namespace, player: Player) -> int:

@@ -1,4 +1,4 @@
-"""The question `why`: why a call of the script was denied or refused, at which object, and with which capability it would have passed."""
+"""The question `why`: why a call was denied or refused, at which object, and with which capability it would have passed."""
 import argparse
 from dataclasses import dataclass, field
 from typing import Any, Dict, Iterator, List, Optional, Sequence
@@ -56,8 +56,8 @@ class Explained:
         """With which capability the call would have passed."""
         if self.passing is None:
             return "no capability was found with which it passes this check"
-        names, reply = " and ".join(self.passing.capabilities), self.passing.reply.text
-        return f"with {names}: {reply}" + ("" if self.passing.complete else "; no further capability was found with which it passes that")
+        end = "" if self.passing.complete else "; no further capability was found with which it passes that"
+        return f"with {self.passing.names}: {self.passing.reply.text}{end}"
 
     def as_json(self) -> Dict[str, Any]:
         """The explanation as JSON has it."""
@@ -67,7 +67,8 @@ class Explained:
             "place": self.reply.place, "words": self.words, "object": object_as_json(self), "process": process_as_json(self.process),
             "caller": process_as_json(self.caller), "exercised": list(self.used), "notes": self.notes,
             "passes_with": None if self.passing is None else {
-                "capabilities": list(self.passing.capabilities), "reply": self.passing.reply.text, "complete": self.passing.complete},
+                "capabilities": list(self.passing.capabilities), "permitted": list(self.passing.permitted),
+                "reply": self.passing.reply.text, "complete": self.passing.complete},
         }
 
 
@@ -86,7 +87,7 @@ def process_as_json(facts: Optional[ProcessFacts]) -> Optional[Dict[str, Any]]:
     if facts is None:
         return None
     names = ("user", "effective_user", "saved_user", "group", "effective_group", "saved_group", "groups")
-    effective = read_sets(facts.caps if facts.caps != "none" else "=").effective
+    effective = read_sets(facts.caps).effective
     return {"process": facts.tag, "label": facts.label, **dict(zip(names, facts.ids)), "caps": facts.caps,
             "effective": [name for name in CAPABILITIES if name in effective]}
 

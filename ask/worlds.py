@@ -3,14 +3,14 @@
 Nothing here judges: whether a line is accepted, and what a call does, only `labsys` says. The reader takes every text, and leaves
 out of objects, processes and calls the lines that have not the form of one.
 """
-import dataclasses
 import enum
+import functools
 import pathlib
 import re
 import sys
-from dataclasses import dataclass
+from dataclasses import dataclass, field
 from functools import cached_property
-from typing import Dict, Iterable, Iterator, List, Mapping, Optional, Sequence, Tuple
+from typing import Callable, Dict, Iterable, Iterator, List, Mapping, NamedTuple, Optional, Sequence, Tuple
 
 MAX_INPUT = 16_777_216
 MAX_LINE = 2_048
@@ -37,8 +37,7 @@ class Kind(enum.Enum):
     FIFO = "fifo"
 
 
-@dataclass(frozen=True)
-class Word:
+class Word(NamedTuple):
     """A word of a line: as it is written, the bytes that it stands for, and the column of its first byte, from 0."""
     written: bytes
     value: bytes
@@ -75,6 +74,33 @@ class Line:
     def blank(self) -> bool:
         """Whether the line is left out: it has no words, or is a comment."""
         return not self.words and self.malformed is None
+
+
+class Lines(Sequence[Line]):
+    """The lines of a text, in order; each is read when it is asked for. The last one may lack its line feed."""
+
+    def __init__(self, text: bytes):
+        self.pieces = text.split(b"\n")
+        self.ended = not self.pieces[-1]
+        if self.ended:
+            self.pieces.pop()
+
+    def __len__(self) -> int:
+        return len(self.pieces)
+
+    def __getitem__(self, at):
+        if isinstance(at, slice):
+            return tuple(map(self._line, range(*at.indices(len(self)))))
+        return self._line(range(len(self))[at])
+
+    def _line(self, index: int) -> Line:
+        ended = self.ended or index + 1 < len(self.pieces)
+        return Line(index + 1, self.pieces[index], *split_words(self.pieces[index]), ended)
+
+    def filled(self) -> Iterator[Line]:
+        """The lines that are not blank."""
+        lines = (self._line(index) for index, piece in enumerate(self.pieces) if piece and not piece.startswith(b"#"))
+        return (line for line in lines if not line.blank)
 
 
 @dataclass(frozen=True)
@@ -153,9 +179,16 @@ class Policy:
     levels: Tuple[str, ...] = ()
     categories: Tuple[str, ...] = ()
     grades: Tuple[str, ...] = ()
+    read: Dict[str, str] = field(default_factory=dict, compare=False, repr=False)
 
     def canonical(self, label: str) -> str:
         """The canonical text of a label: categories once and in the world's order, a grade only where it is not the highest."""
+        if label not in self.read:
+            self.read[label] = self.canonical_anew(label)
+        return self.read[label]
+
+    def canonical_anew(self, label: str) -> str:
+        """As `canonical`, for a label that was not read before."""
         rest, _, grade = label.partition("/")
         level, _, names = rest.partition(":")
         given = set(names.split(",")) if names else set()
@@ -173,7 +206,7 @@ class Policy:
 class World:
     """A text that was read: all of its lines, what the lines of the world say, and the calls of the script."""
     text: bytes
-    lines: Tuple[Line, ...]
+    lines: Lines
     policy: Policy
     bound: str
     objects: Tuple[WorldObject, ...]
@@ -204,7 +237,8 @@ class World:
     def head(self, changed: Optional[Mapping[int, Optional[bytes]]] = None, added: Iterable[bytes] = ()) -> bytes:
         """The lines up to `script`: `changed` has other texts, or None, for lines by their numbers; `added` stand last."""
         last = self.script_line or len(self.lines) + 1
-        kept = (line.text if not changed else changed.get(line.number, line.text) for line in self.lines[: last - 1])
+        pieces = enumerate(self.lines.pieces[: last - 1], 1)
+        kept = (text if not changed else changed.get(number, text) for number, text in pieces)
         return b"".join(text + b"\n" for text in (*(text for text in kept if text is not None), *added, b"script"))
 
     def with_script(self, calls: Iterable[str], changed: Optional[Mapping[int, Optional[bytes]]] = None) -> bytes:
@@ -213,7 +247,12 @@ class World:
 
 
 BARE = re.compile(rb'[!#-\[\]-~]+')
+PLAIN = re.compile(rb"[ !#-\[\]-~]*")
+PIECE = re.compile(rb"[^ ]+")
 ITEM = re.compile(rb'[ !#-\[\]-~]+|\\["\\]|\\x[0-9a-fA-F]{2}')
+
+
+KINDS = {kind.value.encode("ascii"): kind for kind in Kind}
 
 
 def byte_fault(text: bytes, column: int) -> MalformedAt:
@@ -246,6 +285,9 @@ def quoted_word(text: bytes, column: int) -> Tuple[Optional[Word], Optional[Malf
 
 def split_words(text: bytes) -> Tuple[Tuple[Word, ...], Optional[MalformedAt]]:
     """The words of a line up to its fault, and the fault, if there is one. A comment has no words."""
+    if PLAIN.fullmatch(text):
+        plain = tuple([Word(found[0], found[0], found.start()) for found in PIECE.finditer(text)])
+        return () if plain and plain[0].value.startswith(b"#") else plain, None
     words: List[Word] = []
     at = 0
     while True:
@@ -266,15 +308,6 @@ def split_words(text: bytes) -> Tuple[Tuple[Word, ...], Optional[MalformedAt]]:
             return tuple(words[:-1]), byte_fault(text, at)
 
 
-def lines_of(text: bytes) -> Iterator[Line]:
-    """The lines of a text, in order; the last one may lack its line feed."""
-    pieces = text.split(b"\n")
-    for index, piece in enumerate(pieces):
-        ended = index + 1 < len(pieces)
-        if ended or piece:
-            yield Line(index + 1, piece, *split_words(piece), ended)
-
-
 def quoted(value: bytes) -> str:
     """A quoted word for these bytes, in the canonical form."""
     def item(byte: int) -> str:
@@ -282,6 +315,7 @@ def quoted(value: bytes) -> str:
     return '"' + "".join(map(item, value)) + '"'
 
 
+@functools.lru_cache(maxsize=65_536)
 def path_word(path: bytes) -> str:
     """A word for a path: bare where its bytes may stand in a bare word, and else quoted."""
     return path.decode("ascii") if BARE.fullmatch(path) else quoted(path)
@@ -304,10 +338,10 @@ def number_of(word: Word, base: int = 10) -> Optional[int]:
     return int(word.value, base) if re.fullmatch(digits, word.value) else None
 
 
-def read_object(line: Line, policy: Policy) -> Optional[WorldObject]:
-    """The object of a line, without its number, or None where the line has not the form of one."""
+def read_object(line: Line, policy: Policy, draw: Callable[[str], str]) -> Optional[WorldObject]:
+    """The object of a line, or None where the line has not the form of one. `draw` gives the next number of a label."""
     words = line.words
-    kind = next((kind for kind in Kind if kind.value == words[0].text), None)
+    kind = KINDS.get(words[0].value)
     if kind is None or not (7 <= len(words) <= 8 if kind is Kind.FILE else len(words) == 6):
         return None
     mode, owner, group = number_of(words[2], 8), number_of(words[3]), number_of(words[4])
@@ -316,11 +350,11 @@ def read_object(line: Line, policy: Policy) -> Optional[WorldObject]:
     content = words[6].value if kind is Kind.FILE else b""
     caps = words[7].text if len(words) == 8 else None
     label = policy.canonical(words[5].text)
-    return WorldObject(line.number, kind, canonical_path(words[1].value), mode, owner, group, label, content, caps)
+    return WorldObject(line.number, kind, canonical_path(words[1].value), mode, owner, group, label, content, caps, draw(label))
 
 
-def read_process(line: Line, policy: Policy) -> Optional[WorldProcess]:
-    """The process of a line, without its tag, or None where the line has not the form of one."""
+def read_process(line: Line, policy: Policy, draw: Callable[[str], str]) -> Optional[WorldProcess]:
+    """The process of a line, or None where the line has not the form of one. `draw` gives the next number of a label."""
     words = line.words
     if words[0].text != "proc" or len(words) != 6:
         return None
@@ -328,10 +362,11 @@ def read_process(line: Line, policy: Policy) -> Optional[WorldProcess]:
     if user is None or group is None or not re.fullmatch(rb"-|\d+(,\d+)*", words[4].value):
         return None
     groups = () if words[4].value == b"-" else tuple(map(int, words[4].value.split(b",")))
-    return WorldProcess(line.number, policy.canonical(words[1].text), user, group, groups, words[5].text)
+    label = policy.canonical(words[1].text)
+    return WorldProcess(line.number, label, user, group, groups, words[5].text, draw(label))
 
 
-def read_script(lines: Sequence[Line], policy: Policy) -> Iterator[ScriptLine]:
+def read_script(lines: Iterable[Line], policy: Policy) -> Iterator[ScriptLine]:
     """The calls of the lines after `script`, numbered from 1."""
     number = 1
     for line in lines:
@@ -342,7 +377,7 @@ def read_script(lines: Sequence[Line], policy: Policy) -> Iterator[ScriptLine]:
             yield read
 
 
-def read_names(lines: Sequence[Line]) -> Tuple[Policy, str]:
+def read_names(lines: Iterable[Line]) -> Tuple[Policy, str]:
     """The names of labels and the bound, from the lines that begin with their keywords; the first of each counts."""
     found: Dict[str, Tuple[str, ...]] = {}
     for line in lines:
@@ -352,27 +387,36 @@ def read_names(lines: Sequence[Line]) -> Tuple[Policy, str]:
     return policy, " ".join(found.get("bound", ()))
 
 
+def drawing() -> Callable[[str], str]:
+    """A function that draws the next number of a label."""
+    drawn: Dict[str, int] = {}
+
+    def draw(label: str) -> str:
+        """The next number of a label."""
+        drawn[label] = drawn.get(label, 0) + 1
+        return f"{drawn[label]}@{label}"
+
+    return draw
+
+
+def read_things(lines: Iterable[Line], policy: Policy) -> Tuple[Tuple[WorldObject, ...], Tuple[WorldProcess, ...]]:
+    """The objects and processes of lines, each with its number."""
+    lines = [line for line in lines if line.words and line.malformed is None]
+    draw_object, draw_process = drawing(), drawing()
+    objects = (read_object(line, policy, draw_object) for line in lines)
+    processes = (read_process(line, policy, draw_process) for line in lines if line.words[0].value == b"proc")
+    return tuple(filter(None, objects)), tuple(filter(None, processes))
+
+
 def read_world(text: bytes) -> World:
     """Reads a world with or without calls after its line `script`."""
-    lines = tuple(lines_of(text))
-    script_line = next((line.number for line in lines if len(line.words) == 1 and line.words[0].written == b"script"), None)
-    head = lines[: script_line - 1] if script_line else lines
+    lines = Lines(text)
+    filled = list(lines.filled())
+    script_line = next((line.number for line in filled if len(line.words) == 1 and line.words[0].written == b"script"), None)
+    head = [line for line in filled if script_line is None or line.number < script_line]
     policy, bound = read_names(head)
-    drawn: Dict[Tuple[str, str], int] = {}
-
-    def draw(what: str, label: str) -> str:
-        drawn[what, label] = drawn.get((what, label), 0) + 1
-        return f"{drawn[what, label]}@{label}"
-
-    objects, processes = [], []
-    for line in (line for line in head if line.words and line.malformed is None):
-        entry, process = read_object(line, policy), read_process(line, policy)
-        if entry:
-            objects.append(dataclasses.replace(entry, number=draw("object", entry.label)))
-        elif process:
-            processes.append(dataclasses.replace(process, tag=draw("process", process.label)))
-    script = tuple(read_script(lines[script_line:], policy)) if script_line else ()
-    return World(text, lines, policy, bound, tuple(objects), tuple(processes), script_line, script)
+    script = tuple(read_script(filled[len(head) + 1:], policy)) if script_line else ()
+    return World(text, lines, policy, bound, *read_things(head, policy), script_line, script)
 
 
 def read_file(name: str) -> bytes:

@@ -78,7 +78,7 @@ def random_world(draw, caps=()):
         held = f' "{draw.choice(caps)}=ep"' if kind == "file" and caps and draw.random() < 0.4 else ""
         lines.append(f"{kind} {path} {mode} {ids} {label}" + (f' "bytes of {number}"{held}' if kind == "file" else ""))
     for _ in range(draw.randint(2, 4)):
-        sets = f"{draw.choice(caps)}=ep" if caps and draw.random() < 0.4 else "="
+        sets = f"{draw.choice(caps)}=ep" if caps and draw.random() < 0.7 else "="
         lines.append(f"proc {random_label(draw, levels, categories)} {draw.choice((0, 10, 20))} {draw.choice((0, 10))} - \"{sets}\"")
     return ("\n".join([*lines, "script"]) + "\n").encode(), levels
 

@@ -111,7 +111,7 @@ def table_faults():
     shown = dict(re.findall(r"^\| `TAG (\w+) ([^`]*)` \|", formats, re.M))
     if shown != UTILITIES:
         yield f"utilities: {shown}"
-    lines = dict(re.findall(r"^\| `(dir|file|fifo|proc) ([^`]*)` \|", formats, re.M))
+    lines = dict(re.findall(r"^\| `(dir|file|fifo|proc) ((?:PATH|LABEL) [^`]*)` \|", formats, re.M))
     if lines != LINES:
         yield f"lines: {lines}"
     profile = (TOP / "docs" / "PROFILE.md").read_text().split("## Capabilities")[1].split("The five")[0]

@@ -12,7 +12,7 @@ from support import TOP, labask, player, report
 
 from playing import Outcome
 
-ASKED = [("backup_for_all", 6), ("lesson", 3), ("login", 3), ("owners_and_modes", 2), ("relabelling", 2), ("pipes", 4)]
+ASKED = [("backup_for_all", 6), ("lesson", 3), ("login", 3), ("owners_and_modes", 2), ("relabelling", 2), ("read_by_capability", 1)]
 NUMBER = re.compile(r"\d+@\S+")
 WORLD = """world 2
 levels low high

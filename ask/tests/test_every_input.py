@@ -12,6 +12,7 @@ from playing import Refused
 from worlds import read_world
 
 MOST_CELLS = 3000  # of a table; about the objects of larger worlds, the first ones are asked
+MOST_BYTES = 1_000_000  # of a refused input about which `who` is asked too, which says the same as `check`
 
 
 def refusal_of(asked, text):
@@ -43,6 +44,8 @@ def input_faults(name, text, asked, folder, counts):
         yield f"{name}: check: status {status}: {out[-300:]}{messages[-300:]}"
     if refusal is not None and (out.splitlines()[-1] != f"labsys: {refusal}" or "no fault was found" in out):
         yield f"{name}: {refusal} is explained as {out[:300]}"
+    if refusal is not None and len(text) > MOST_BYTES:
+        return
     status, out, messages = labask("who", path, *(first_paths(text) if refusal is None else ()))
     if status != (0 if refusal is None else 2):
         yield f"{name}: who: status {status}: {out[-300:]}{messages[-300:]}"

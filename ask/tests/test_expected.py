@@ -25,7 +25,7 @@ FLOWS = {
     "fetched_program": ("/etc/hosts", "1@public/fetched"), "lesson": ("/exam/questions", "1@secret"),
     "read_by_capability": ("/a", "1@unc"), "relabelling": ("/in/note", "1@public"), "utilities": ("/bin/login", "1@public"),
 }
-CUTS = {"backup_for_all": 6, "lesson": 3, "login": 3, "owners_and_modes": 2, "pipes": 4, "read_by_capability": 1, "relabelling": 2}
+CUTS = {"backup_for_all": 6, "lesson": 3, "login": 3, "owners_and_modes": 2, "read_by_capability": 1, "relabelling": 2}
 
 
 def questions(name):

@@ -4,8 +4,6 @@
 The worlds are the examples, and small random ones with capabilities. Of the search of a directory and of an execution the calls of
 the test are others than those of the question: `chdir` by a child, and `exec` by the process itself.
 """
-import sys
-
 from support import EXAMPLES, player, random_world, report, seeds
 
 import who
@@ -13,7 +11,7 @@ from playing import Outcome
 from signatures import CAPABILITIES
 from worlds import Kind, path_word, read_world
 
-RANDOM = 12
+RANDOM = 16
 CAPS = [name for name in CAPABILITIES if name.startswith(("cap_dac", "cap_mac"))]
 
 
@@ -74,7 +72,7 @@ def limits_faults(asked):
 
 def main():
     asked, counts, faults = player(), {}, []
-    for path in EXAMPLES[::3]:
+    for path in EXAMPLES[::4]:
         faults += world_faults(path.name, path.read_bytes(), asked, counts)
     for seed, draw in enumerate(seeds(RANDOM)):
         faults += world_faults(f"seed {seed}", random_world(draw, CAPS)[0], asked, counts)

@@ -11,7 +11,7 @@ from support import EXAMPLES, TOP, case_inputs, player, report
 import why
 from playing import Outcome, Refused
 from reasons import CHECKS, ERRORS
-from worlds import path_word, read_world
+from worlds import read_world
 
 MOST_CALLS = 60  # of a case; those with more are the largest inputs
 
@@ -98,12 +98,12 @@ def moment_faults(asked):
     due = ["call 5, line 15: 2@low open g r: EACCES dac_read p1",
            "  dac_read: the mode does not let the caller read the object",
            "  object: /e/g: file 0600, owner 10, group 10, label low, line 7",
-           "  caller: 2@low: label low, user 11, group 11, groups -, capabilities none",
+           "  caller: 2@low: label low, user 11, group 11, groups -, effective capabilities none",
            "  with cap_dac_read_search: ok 0",
            "call 6, line 16: 1@low unlink /e/none: ENOENT",
            "  ENOENT: a name of the path is absent",
            "  object: /e: dir 0777, owner 0, group 0, label low, line 6",
-           "  caller: 1@low: label low, user 10, group 10, groups -, capabilities none",
+           "  caller: 1@low: label low, user 10, group 10, groups -, effective capabilities none",
            "  the first name that leads nowhere is that of /e/none"]
     if lines != due:
         yield "the moment: " + "\n".join(lines)
