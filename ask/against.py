@@ -15,6 +15,7 @@ from worlds import ScriptLine, World, read_file
 
 COMMENT = re.compile(rb"# (\d+)(: |, )")
 DONE = 0
+EXPLAINED = 10
 
 
 @dataclass(frozen=True)
@@ -56,17 +57,17 @@ def compare_all(world: World, log: Log, replies: Sequence[Reply]) -> List[Compar
 
 
 def explanations(world: World, played: Played, player: Player, compared: Sequence[Comparison]) -> Dict[int, Any]:
-    """What `why` says of the calls that a check denied here alone, by their numbers."""
+    """What `why` says of the first calls that a check denied here alone, by their numbers: to try each takes a run of its own."""
     from why import Asker
 
-    numbers = {each.reply.number for each in compared if each.verdict is Verdict.DENIED}
+    numbers = sorted(each.reply.number for each in compared if each.verdict is Verdict.DENIED)[:EXPLAINED]
     found: Dict[int, Any] = {}
     if not numbers:
         return found
     asker = Asker(world, played, player)
     try:
         with Observed(world, player) as observed:
-            for line in world.script:
+            for line in (line for line in world.script if line.first_call <= numbers[-1]):
                 for reply in observed.play(line):
                     if reply.number in numbers:
                         found[reply.number] = asker.explain(observed, line, reply)
@@ -96,7 +97,10 @@ def lines_of(compared: Sequence[Comparison], explained: Dict[int, Any]) -> Itera
             yield from (f"  {line}" for line in (text if verdict is Verdict.DENIED else [text[0], f"  {each.text}"]))
     yield f"{len(compared)} calls of the log were played"
     yield from (f"  {count} {what}" for what, count in counts(compared).items())
-    if any(each.verdict is Verdict.DENIED for each in compared):
+    denied = sum(each.verdict is Verdict.DENIED for each in compared)
+    if denied > len(explained):
+        yield f"The first {len(explained)} of the {denied} calls that are denied here are explained."
+    if denied:
         yield "Behind a denial the script goes on as the log does; the program itself may do something else."
 
 

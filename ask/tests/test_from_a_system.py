@@ -36,7 +36,8 @@ STAND_IN = r"""#!/bin/sh
 while [ "$1" != -o ]; do shift; done
 log=$2; shift 2
 "$@"
-exec sed "s,{recorded},$(pwd -P),g" "{kept}/${{log##*/}}" > "$log"
+exec sed -e "s,{recorded},$(pwd -P),g" -e "/ gete*uid() /s/= {user}/= $(id -u)/" -e "/ gete*gid() /s/= {user}/= $(id -g)/" \
+    "{kept}/${{log##*/}}" > "$log"
 """
 
 
@@ -57,7 +58,7 @@ def make_folder(folder, tracer):
     (folder / "bin").mkdir()
     (folder / "bin" / "python3").symlink_to(sys.executable)
     if tracer is None:
-        script(folder / "bin" / "strace", STAND_IN.format(recorded=RECORDED, kept=KEPT))
+        script(folder / "bin" / "strace", STAND_IN.format(recorded=RECORDED, kept=KEPT, user=USER))
     else:
         (folder / "bin" / "strace").symlink_to(tracer)
     if root():
