@@ -146,6 +146,15 @@ def check_order(folder):
         raise AssertionError(f"{wrong} {calls}")
 
 
+def check_many(folder):
+    """Of many calls that are denied the first are explained."""
+    lines = [f'mkdir("top/{number}", 0700) = 0' for number in range(12)]
+    found, text, _ = compared(folder, WORLD, lines)
+    explained = [number for number, each in found.items() if each["why"]]
+    if explained != list(range(1, 11)) or b"The first 10 of the 12 calls that are denied here are explained.\n" not in text:
+        raise AssertionError(f"{explained} {text}")
+
+
 def check_foreign(folder):
     """A script that no comment ties to the log, and one of another log."""
     compared(folder, WORLD, ['getpid() = 100'])
@@ -162,6 +171,7 @@ def main():
         folder = pathlib.Path(name)
         check_verdicts(folder)
         check_order(folder)
+        check_many(folder)
         check_foreign(folder)
     shown = {text for _, _, text in LOG} & set(known_texts())
     print(f"{len(LOG)} lines of a log with their verdicts; {len(shown)} of {len(known_texts())} known differences, "
