@@ -250,7 +250,7 @@ def as_json(writing: Writing) -> dict:
 def answer(arguments: argparse.Namespace, player: Player) -> int:
     """Writes the world of a directory. Where no world can have the tree, nothing is written but what is at fault."""
     directory = os.path.realpath(os.fsencode(arguments.directory))
-    os.listdir(directory)
+    os.listdir(os.fsdecode(directory))
     try:
         writing = make_world(directory, arguments)
         judge(writing, player)

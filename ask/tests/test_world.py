@@ -284,6 +284,8 @@ def check_versions(folder):
     equal((first.sets.text, first.root), ("cap_kill=ep", 0), "version 1")
     third = read_attribute(struct.pack("<6I", 0x03000000, KILL, SETUID, 0, 0, 1000))
     equal((third.sets.text, third.root), ("cap_kill=p cap_setuid=i", 1000), "version 3")
+    high = read_attribute(struct.pack("<5I", 0x02000001, KILL, 0, 1 << 7, 1 << 8)).sets
+    equal((high.text, high.left_out), ("cap_kill=ep", ("cap_bpf", "cap_checkpoint_restore")), "the second word of a set")
     tree = folder / "versions"
     tree.mkdir()
     (tree / "f").write_bytes(b"")
