@@ -124,6 +124,11 @@ def without_process(world: World, played: Played, player: Player) -> Iterator[No
             apply_change(living, record)
 
 
+def counted(count: int, word: str, ending: str = "s") -> str:
+    """A number with a word for what is counted."""
+    return f"{count} {word}{'' if count == 1 else ending}"
+
+
 def answer(arguments: argparse.Namespace, player: Player) -> int:
     """Answers the question."""
     text = read_file(arguments.file)
@@ -142,7 +147,8 @@ def answer(arguments: argparse.Namespace, player: Player) -> int:
                     "no_process": [{"line": each.line, "call": each.reply.number, "process": each.missing, "living": each.living}
                                    for each in missing]})
         return ACCEPTED
-    print(f"{arguments.file}: labsys accepts it, with {objects} objects, {processes} processes and {calls} calls")
+    numbers = [counted(objects, "object"), counted(processes, "process", "es"), counted(calls, "call")]
+    print(f"{arguments.file}: labsys accepts it, with {numbers[0]}, {numbers[1]} and {numbers[2]}")
     for each in missing:
         print(each.text(arguments.file))
     return ACCEPTED
