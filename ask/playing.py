@@ -190,12 +190,14 @@ class Player:
 class Session:
     """A run of `labsys` that is asked call by call: a line is sent, and its replies are read.
 
-    Used as a context; the process ends with it. `replies` counts the calls that were made so far.
+    Used as a context; the process ends with it. `replies` counts the calls that were made so far, and `sent` the bytes of the input.
     """
     BATCH_BYTES = 16_384  # less than a pipe holds, so that sending never waits for replies to be read
+    MOST_READ = 4_096  # replies that are kept, since most are the same but for their tag
 
     def __init__(self, player: Player, head: bytes):
-        self.player, self.head, self.replies = player, head, 0
+        self.player, self.head, self.replies, self.sent = player, head, 0, 0
+        self._read: Dict[bytes, Reply] = {}
         self._folder = tempfile.TemporaryDirectory(prefix="labask-")
         self.trail_path = pathlib.Path(self._folder.name) / "trail"
 
@@ -220,6 +222,7 @@ class Session:
         self._folder.cleanup()
 
     def _send(self, text: bytes) -> None:
+        self.sent += len(text)
         try:
             self._run.stdin.write(text)
             self._run.stdin.flush()
@@ -228,12 +231,16 @@ class Session:
 
     def _reply(self) -> Reply:
         line = self._run.stdout.readline()
-        words = split_words(line.rstrip(b"\n"))[0]
-        if len(words) < 3 or b"@" not in words[0].value:
+        tag, _, rest = line.partition(b" ")
+        if b"@" not in tag or not rest:
             last = Played(STATUS_REFUSED, line, b"", b"")
             raise Refused(self.head, last.refusal) if last.refusal else PlayingFault("labsys ended before its input")
         self.replies += 1
-        return read_reply(self.replies, words)
+        if rest not in self._read:
+            self._read = self._read if len(self._read) < self.MOST_READ else {}
+            self._read[rest] = read_reply(0, split_words(line.rstrip(b"\n"))[0])
+        one = self._read[rest]
+        return Reply(self.replies, tag.decode("latin-1"), one.call, one.outcome, one.error, one.check, one.place, one.words, one.path)
 
     def line(self, text: str, calls: int = 1) -> List[Reply]:
         """The replies to a line of the script that makes so many calls."""

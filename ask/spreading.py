@@ -15,6 +15,9 @@ from who import Namer, join_path
 from worlds import Kind, World, path_word, quoted
 
 MOST_ACTORS = 400
+ABOUT_ITSELF = ("mac_get_proc", "getids", "cap_get_proc")
+TRIED_AT_ONCE = 32
+MOST_SENT = 14_000_000  # bytes of a run, of the 16,777,216 that an input may have
 
 
 class Step(enum.Enum):
@@ -83,6 +86,7 @@ class Run:
         self.world, self.player, self.keep = world, player, keep
         self.session = Session(player, world.head())
         self.known: Dict[Actor, Known] = {}
+        self.by_answers: Dict[Tuple[str, Tuple[str, ...]], Actor] = {}
         self.files = [each.path for each in world.objects if each.kind is Kind.FILE]
         self.labels = list(dict.fromkeys([each.label for each in world.objects] + [each.label for each in world.processes]))
         self.made: List[Tuple[Actor, bytes]] = []
@@ -107,6 +111,11 @@ class Run:
         for actor, path in self.made:
             self.session.calls([f"{self.known[actor].tag} open {path_word(path)} wcx 0666", f"{self.known[actor].tag} close 0"])
 
+    def make_room(self) -> None:
+        """Begins the run again where its input has come near the limit."""
+        if self.session.sent > MOST_SENT:
+            self.renew()
+
     def child(self, tag: str) -> Optional[str]:
         """A child of a process, or None where no number is left for it."""
         reply = self.session.call(f"{tag} fork")
@@ -114,7 +123,7 @@ class Run:
 
     def answers(self, tag: str) -> Tuple[str, ...]:
         """What a process answers about its label, ids and capability sets."""
-        replies = self.session.calls([f"{tag} {call}" for call in ("mac_get_proc", "getids", "cap_get_proc")])
+        replies = self.session.calls([f"{tag} {call}" for call in ABOUT_ITSELF])
         return tuple(reply.text for reply in replies)
 
     # ---- actors
@@ -126,7 +135,8 @@ class Run:
             answers = self.answers(process.tag)
             if answers not in seen or process.tag == self.keep:
                 seen.add(answers)
-                self.known[Actor(process.tag)] = Known(process.tag, answers)
+                actor = self.by_answers[process.tag, answers] = Actor(process.tag)
+                self.known[actor] = Known(process.tag, answers)
         waiting = list(self.known)
         while waiting and len(self.known) < MOST_ACTORS:
             actor = waiting.pop(0)
@@ -142,55 +152,82 @@ class Run:
         calls += [f"mac_set_proc {other}" for other in self.labels if other != label]
         index = 0
         while index < len(calls):
-            child = self.child(known.tag)
+            self.make_room()
+            child = self.child_or_renewed(actor)
             if child is None:
                 return
             index, answers = self.try_calls(child, calls, index, known.answers)
+            self.session.call(f"{child} exit 0")
             if answers is None:
-                self.session.call(f"{child} exit 0")
                 continue
-            found = Actor(actor.process, (*actor.calls, calls[index - 1]))
-            other = next((each for each, one in self.known.items() if each.process == actor.process and one.answers == answers), None)
-            known.next[calls[index - 1]] = other or found
-            if other is not None:
-                self.session.call(f"{child} exit 0")
-                continue
-            self.known[found] = Known(child, answers)
-            yield found
+            call = calls[index - 1]
+            found = self.by_answers.get((actor.process, answers))
+            if found is None:
+                found = self.by_answers[actor.process, answers] = Actor(actor.process, (*actor.calls, call))
+                self.known[found] = Known(self.changed_child(actor, call), answers)
+                yield found
+            known.next[call] = found
+
+    def changed_child(self, actor: Actor, call: str) -> str:
+        """A child of an actor that has made a call."""
+        child = self.child_or_renewed(actor)
+        self.session.call(f"{child} {call}")
+        return child
+
+    def child_or_renewed(self, actor: Actor) -> Optional[str]:
+        """A child of an actor, in a run that begins again where no number was left for it."""
+        child = self.child(self.known[actor].tag)
+        if child is None:
+            self.renew()
+            child = self.child(self.known[actor].tag)
+        return child
 
     def try_calls(self, child: str, calls: Sequence[str], index: int, before: Tuple[str, ...]):
-        """Makes calls from an index on until one changes the child: the index after it, and what it answers then, or None."""
-        for at in range(index, len(calls)):
-            replies = self.session.calls([f"{child} {call}" for call in (calls[at], "mac_get_proc", "getids", "cap_get_proc")])
-            answers = tuple(reply.text for reply in replies[1:])
-            if answers != before:
-                return at + 1, answers
-        return len(calls), None
+        """Makes calls from an index on up to one that changes the child: the index after it, and what it answers then, or None."""
+        count = 1
+        while index < len(calls):
+            tried = range(index, min(index + count, len(calls)))
+            lines = [f"{child} {call}" for at in tried for call in (calls[at], *ABOUT_ITSELF)]
+            replies = [reply.text for reply in self.session.calls(lines)]
+            for at, start in zip(tried, itertools.count(0, len(ABOUT_ITSELF) + 1)):
+                answers = tuple(replies[start + 1:start + 1 + len(ABOUT_ITSELF)])
+                if answers != before:
+                    return at + 1, answers
+            index, count = tried.stop, min(2 * count, TRIED_AT_ONCE)
+        return index, None
 
     # ---- what actors may do
 
     def may_open(self, asked: Sequence[Tuple[Actor, bytes, str]]) -> List[bool]:
         """Whether each actor may open what is at a path with these flags."""
+        self.make_room()
         lines: List[str] = []
         for actor, path, flags in asked:
             tag = self.known[actor].tag
             lines += [f"{tag} open {path_word(path)} {flags}", f"{tag} close 0"]
         return [reply.outcome is Outcome.DONE for reply in self.session.calls(lines)[::2]]
 
-    def relabels(self, actor: Actor, path: bytes, labels: Sequence[str]) -> Iterator[str]:
-        """The labels that an actor may give the object at a path; the run begins again after each."""
-        tag = self.known[actor].tag
-        replies = self.session.calls([f"{tag} mac_set_file {path_word(path)} {label}" for label in labels])
-        if any(reply.outcome is Outcome.DONE for reply in replies):
-            for label in labels:
+    def relabels(self, path: bytes, labels: Sequence[str]) -> Iterator[Tuple[Actor, str]]:
+        """The actors that may give the object at a path another label, and which; the run begins again after each."""
+        self.make_room()
+        asked = [(actor, label) for actor in self.known for label in labels]
+        done = [reply.outcome is Outcome.DONE for reply in self.session.calls([self.relabelling(*one, path) for one in asked])]
+        if not any(done):
+            return
+        self.renew()
+        for actor, label in asked:
+            if self.session.call(self.relabelling(actor, label, path)).outcome is Outcome.DONE:
+                yield actor, label
                 self.renew()
-                if self.session.call(f"{self.known[actor].tag} mac_set_file {path_word(path)} {label}").outcome is Outcome.DONE:
-                    yield label
-            self.renew()
+
+    def relabelling(self, actor: Actor, label: str, path: bytes) -> str:
+        """The line of the call by which an actor gives the object at a path a label."""
+        return f"{self.known[actor].tag} mac_set_file {path_word(path)} {label}"
 
     def pipes(self, source: Actor, target: Actor) -> bool:
         """Whether a byte gets through a pipe that the process of both actors made at its start."""
-        base = self.child(source.process)
+        self.make_room()
+        base = self.child_or_renewed(Actor(source.process))
         if base is None:
             return False
         self.session.call(f"{base} pipe")
@@ -272,13 +309,11 @@ class Spread:
         there = self.world.objects_by_path.get(place.path)
         present = there.label if there else self.created_labels[place.path]
         labels = [label for label in self.run.labels if label != present]
-        for actor in list(self.run.known):
-            for label in self.run.relabels(actor, place.path, labels):
-                target = Place(place.path, label)
-                others = list(self.run.known)
-                may = self.run.may_open([(other, place.path, "r") for other in others])
-                self.readers[target] = [other for other, allowed in zip(others, may) if allowed]
-                yield Hop(Step.RELABEL, place, target, actor, 1 + len(actor.calls))
+        for actor, label in self.run.relabels(place.path, labels):
+            target, others = Place(place.path, label), list(self.run.known)
+            may = self.run.may_open([(other, place.path, "r") for other in others])
+            self.readers[target] = [other for other, allowed in zip(others, may) if allowed]
+            yield Hop(Step.RELABEL, place, target, actor, 1 + len(actor.calls))
 
     # ---- the steps from an actor
 
