@@ -88,9 +88,9 @@ def page_of(player: Player, run: Run, name: str, ranks: Ranks, views: Sequence[V
         "rights": ("Who may", rights_section(player, run.world)),
         "words": ("Checks and refusals", words_section(run)),
     }
-    yield ('<!DOCTYPE html>\n<html lang="en"><head><meta charset="utf-8"><meta name="viewport" content="width=device-width,initial-scale=1">'
-           f'<meta name="color-scheme" content="light dark"><title>{text(name)}: a run of labsys</title>\n<style>{style_of(table)}</style>'
-           '</head>\n<body>\n')
+    yield ('<!DOCTYPE html>\n<html lang="en"><head><meta charset="utf-8">\n'
+           '<meta name="viewport" content="width=device-width,initial-scale=1"><meta name="color-scheme" content="light dark">\n'
+           f"<title>{text(name)}: a run of labsys</title>\n<style>{style_of(table)}</style></head>\n<body>\n")
     yield from head_section(run, name, {where: title for where, (title, _) in sections.items()})
     yield "<main>\n"
     for where, (title, parts) in sections.items():

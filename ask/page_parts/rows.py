@@ -5,13 +5,12 @@ which a browser reads past, and the page's script makes a table of it when it co
 the browser has time; where scripts are off, they are tables like the first ones.
 """
 from dataclasses import dataclass
-from itertools import groupby
-from typing import Dict, Iterator, List, Mapping, Optional, Sequence, Tuple, Union
+from typing import Dict, Iterator, List, Mapping, Sequence, Tuple, Union
 
 from playing import Outcome
 from .lanes import Lanes, Patterns, connector, make_patterns
 from .markup import code, cut, text
-from .run import Call, Note, Run, notes_of
+from .run import Call, Note, Run
 from .views import View
 from .words import record_text
 
@@ -42,7 +41,7 @@ def make_table(run: Run, lanes: Lanes, views: Sequence[View]) -> Table:
 
 def items_of(run: Run) -> Iterator[Item]:
     """The calls and the comments of the script, in the order of their lines."""
-    notes = [note for note in notes_of(run.world) if run.world.script_line and note.line > run.world.script_line]
+    notes = [note for note in run.notes if run.world.script_line and note.line > run.world.script_line]
     at = 0
     for call in run.calls:
         while at < len(notes) and notes[at].line < call.line.line.number:
@@ -53,20 +52,17 @@ def items_of(run: Run) -> Iterator[Item]:
 
 
 def batches(run: Run) -> Iterator[List[Item]]:
-    """The items in batches of a hundred calls. Comments stand with the call after them."""
-    last = max(1, len(run.calls))
-
-    def batch_of(numbered: Tuple[int, Item]) -> int:
-        return min(numbered[0], last - 1) // TOGETHER
-
-    def numbered() -> Iterator[Tuple[int, Item]]:
-        count = 0
-        for item in items_of(run):
-            yield count, item
-            count += isinstance(item, Call)
-
-    for _, batch in groupby(numbered(), batch_of):
-        yield [item for _, item in batch]
+    """The items in batches of a hundred calls. Comments stand with the call after them, and the last ones with the last call."""
+    batch: List[Item] = []
+    inside = before = 0
+    for item in items_of(run):
+        if inside == TOGETHER and before + inside < len(run.calls):
+            yield batch
+            batch, inside, before = [], 0, before + inside
+        batch.append(item)
+        inside += isinstance(item, Call)
+    if batch:
+        yield batch
 
 
 def row_class(table: Table, call: Call) -> str:

@@ -70,9 +70,10 @@ class Life:
 
 @dataclass(frozen=True)
 class Run:
-    """A world that was played: its calls in order, and its processes by their tags."""
+    """A world that was played: its comments and its calls in order, and its processes by their tags."""
     world: World
     played: Played
+    notes: Tuple[Note, ...]
     records: Tuple[Record, ...]
     calls: Tuple[Call, ...]
     lives: Dict[str, Life]
@@ -122,10 +123,11 @@ def read_text(raw: bytes) -> str:
 
 def notes_of(world: World) -> Iterator[Note]:
     """The comments of a text that say something, in order."""
-    for line in world.lines:
-        said = line.text.lstrip(b" ")
-        if said.startswith(b"#") and said.strip(b"# "):
-            yield Note(line.number, read_text(said.lstrip(b"# ")).strip())
+    for number, piece in enumerate(world.lines.pieces, 1):
+        if b"#" in piece:
+            said = piece.lstrip(b" ")
+            if said.startswith(b"#") and said.strip(b"# "):
+                yield Note(number, read_text(said.lstrip(b"# ")).strip())
 
 
 def call_texts(line: ScriptLine) -> Iterator[str]:
@@ -162,4 +164,4 @@ def play_run(player: Player, world: World) -> Run:
     histories = Histories()
     for record in records:
         histories.add(record.members)
-    return Run(world, played, records, tuple(read_calls(world, played, records)), histories.lives)
+    return Run(world, played, tuple(notes_of(world)), records, tuple(read_calls(world, played, records)), histories.lives)

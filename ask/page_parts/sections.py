@@ -7,7 +7,7 @@ from worlds import World, path_word
 
 from .lanes import LaneKind, Lanes
 from .markup import code, counted, cut, text
-from .run import Life, Moment, Run, notes_of
+from .run import Life, Moment, Run
 from .views import View, label_of
 from .words import SETS, caps_of, check_text
 
@@ -34,7 +34,7 @@ def head_section(run: Run, name: str, links: Mapping[str, str]) -> Iterator[str]
     """The head of the page; `links` has the sections by their ids."""
     yield f'<header><h1>{text(name)}</h1>\n<p class="lead">A run of <code>labsys</code>. {counts_text(run)}</p>\n'
     first = run.world.objects[0].line if run.world.objects else 0
-    said = [note.text for note in notes_of(run.world) if note.line < first]
+    said = [note.text for note in run.notes if note.line < first]
     if said:
         yield f'<blockquote><p>{"<br>".join(map(cut, said))}</p></blockquote>\n'
     yield ('<p class="source">Every reply, record and view on this page was played by <code>labsys</code>. The page arranges them and '
@@ -153,9 +153,10 @@ def life_rows(run: Run, life: Life, depth: int) -> Iterator[str]:
     yield "</tbody>"
 
 
-def family(run: Run, order: Mapping[str, int]) -> Iterator[tuple]:
+def family(run: Run, order: Mapping[str, int]) -> Iterator[Tuple[int, Life]]:
     """The processes, each with its depth below a process of the world, children after their parents."""
-    def place(tag: str) -> tuple:
+    def place(tag: str) -> Tuple[int, int]:
+        """Where a process stands among those of the world."""
         return order.get(label_of(tag), -1), int(tag.partition("@")[0])
 
     waiting = [(0, tag) for tag in sorted((tag for tag, life in run.lives.items() if life.parent is None), key=place, reverse=True)]
@@ -170,8 +171,9 @@ def processes_section(run: Run, order: Mapping[str, int]) -> Iterator[str]:
     yield ("<p>Where a process comes from, and which label and capability sets it has from which call on, by the records of the trail. "
            "Children stand below their parents. What is effective lets a call go on where a check would deny it; what is permitted may "
            "be made effective; what is inheritable is for <code>exec</code>.</p>\n")
-    heads = "".join(f'<th scope="col">{name.capitalize()}' for name in SETS)
-    yield f'<div class="wide"><table class="plain lives"><thead><tr><th scope="col">Process<th scope="col">From<th scope="col">Label{heads}</thead>\n'
+    names = ("Process", "From", "Label", *(name.capitalize() for name in SETS))
+    heads = "".join(f'<th scope="col">{name}' for name in names)
+    yield f'<div class="wide"><table class="plain lives"><thead><tr>{heads}</thead>\n'
     for depth, life in family(run, order):
         yield from life_rows(run, life, depth)
     yield "</table></div>\n"
@@ -223,7 +225,8 @@ def words_section(run: Run) -> Iterator[str]:
         yield "<p>No check denied a call here, and no call was refused.</p>\n"
     if checks:
         rows = ((code(check), text(check_text(check)), " ".join(map(code, used)) or "none") for check, used in checks.items())
-        yield from words_table("The checks of which the rule failed", ("Check", "In words, where its rule fails", "Exercised for it in this run"), rows)
+        heads = ("Check", "In words, where its rule fails", "Exercised for it in this run")
+        yield from words_table("The checks of which the rule failed", heads, rows)
     if refusals:
         words = ((code(error), code(call), text(error_in_words(call, error))) for error, call in refusals)
         yield from words_table("The other refusals", ("Reply", "Call", "In words"), words)

@@ -67,8 +67,7 @@ def beginning(world: World, line: ScriptLine, calls: int) -> bytes:
     words = [line.tag, line.call, *(word.written.decode("latin-1") for word in line.arguments)]
     if line.call in UTILITIES:
         words = words[: 2 + UTILITIES[line.call][1] + calls]
-    before = b"".join(each.text + b"\n" for each in world.lines[: line.line.number - 1])
-    return before + " ".join(words).encode("ascii") + b"\n"
+    return b"\n".join([*world.lines.pieces[: line.line.number - 1], " ".join(words).encode("ascii"), b""])
 
 
 def view_lines(player: Player, label: str, text: bytes) -> Tuple[List[bytes], bool]:

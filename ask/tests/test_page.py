@@ -19,16 +19,16 @@ from page_inputs import EXAMPLES, LABSYS, Failure, examples, inputs, labask, lab
 
 import labask_main
 from page_parts.lanes import LaneKind, Lanes, make_patterns, stretches
+from page_parts.markup import embedded
 from page_parts.words import caps_of
-from worlds import UTILITIES, quoted, split_words
+from worlds import UTILITIES, quoted, read_world, split_words
 
 LARGEST = 10 * 1024 * 1024
-COMPARED, ASKED = 1_000_000, 4_000_000  # bytes of an input whose rows are compared, and of which a page is made
-ALLOWED = set("""html head meta title style body header h1 p code blockquote br nav ul li a main section h2 span i b form label select option
-input button output noscript div table caption colgroup col thead tbody tr th td small script""".split())
-VOID = {"meta", "br", "col", "input"}
-ATTRIBUTES = set("""lang charset name content id class style href aria-label aria-labelledby aria-hidden aria-live for hidden value type min
-max inputmode autocomplete scope tabindex title colspan rowspan data-label data-tag""".split())
+COMPARED = 1_000_000  # bytes of an input whose rows are compared
+ALLOWED = set("""html head meta title style body header h1 p code blockquote br nav ul li a main section h2 span i b form label select
+option input button output noscript div table caption colgroup col thead tbody tr th td small script""".split())
+ATTRIBUTES = set("""lang charset name content id class style href aria-label aria-labelledby aria-hidden aria-live for hidden value type
+min max inputmode autocomplete scope tabindex title colspan rowspan data-label data-tag""".split())
 
 
 class PageReader(html.parser.HTMLParser):
@@ -90,11 +90,18 @@ def as_line(row):
 
 
 def answer(*words):
-    """The exit status of a question, asked in this process, and its messages."""
-    said = io.StringIO()
-    with contextlib.redirect_stderr(said), contextlib.redirect_stdout(io.StringIO()):
+    """The exit status of a question, asked in this process, its messages and its output."""
+    said, out = io.StringIO(), io.StringIO()
+    with contextlib.redirect_stderr(said), contextlib.redirect_stdout(out):
         status = labask_main.main(["--labsys", LABSYS, *words])
-    return status, said.getvalue()
+    return status, said.getvalue(), out.getvalue()
+
+
+def json_of(path):
+    """The JSON of a run."""
+    status, messages, out = answer("page", "--json", str(path))
+    require(status == 0, f"{path.name}: {messages}")
+    return json.loads(out)
 
 
 def compare_page(page, text, folder):
@@ -129,24 +136,21 @@ def accepted_rows(name, text, page, folder):
 
 
 def test_inputs(folder):
-    """All examples and all inputs of the cases."""
+    """All examples and all inputs of the cases; of a large one a page with one label."""
     world, page, counts = folder / "world.txt", folder / "world.html", collections.Counter()
     for name, text in inputs():
         accepted = labsys("check", given=text)[0] == 0
-        if accepted and len(text) > ASKED:
-            counts["left"] += 1
-            continue
+        one = ["--label", read_world(text).policy.levels[0]] if accepted and len(text) > COMPARED else []
         world.write_bytes(text)
         page.unlink(missing_ok=True)
-        status, messages = answer("page", str(world), "--output", str(page))
+        status, messages, _ = answer("page", str(world), "--output", str(page), *one)
         require(status == (0 if accepted else 2), f"{name}: status {status}: {messages}")
         counts["accepted" if accepted else "refused"] += 1
         if accepted:
             counts["rows"] += accepted_rows(name, text, page, folder)
         else:
             require(messages and not page.exists(), f"{name}: a page of a refused input")
-    return (f"{counts['accepted']} pages with {counts['rows']:,} rows as played, {counts['refused']} inputs refused, {counts['left']} of "
-            "16 MiB left out")
+    return f"{counts['accepted']} pages with {counts['rows']:,} rows as played, {counts['refused']} inputs refused"
 
 
 HOSTILE = b"""# </script><script>window.hacked=1</script> <!-- \xe2\x80\xae \x01 &amp; caf\xc3\xa9 \xff
@@ -174,8 +178,9 @@ def test_escapes(folder):
     world.write_bytes(HOSTILE)
     page = make_page(world, folder).read_text(encoding="utf-8")
     require(compare_page(page, HOSTILE, folder) == 5, "rows")
-    require("<img" not in page and "<svg" not in page and "onmouseover=window" not in page.replace("&lt;b onmouseover=window", ""), "markup")
+    require("<img" not in page and "<svg" not in page and "<b onmouseover" not in page, "markup")
     require("\x01" not in page and "\u202e" not in page and "café" in page, "control characters")
+    require("<" not in embedded({"</script>": "<!--"}), "text in the page's data")
     return "text that looks like HTML stays text"
 
 
@@ -200,9 +205,7 @@ def test_words(folder):
 def test_json(folder):
     """The run as JSON, against `view` and the trail."""
     for path in examples():
-        status, out, messages = labask("page", "--json", str(path))
-        require(status == 0, f"{path.name}: {messages}")
-        run, text = json.loads(out), path.read_bytes()
+        run, text = json_of(path), path.read_bytes()
         records = [line for line in trail_of(text, folder) if re.match(r"[1-9]\d* ", line)]
         require(sum(len(call["records"]) for call in run["calls"]) == len(records), f"{path.name}: records")
         lines = reply_lines(labsys("play", str(folder / "trail"), given=text)[1])
@@ -217,7 +220,7 @@ def test_sets(folder):
     """The last sets and labels of processes, against the end lines of `play`; all but the end lines comes from the trail."""
     count = 0
     for path in examples():
-        run = json.loads(labask("page", "--json", str(path))[1])
+        run = json_of(path)
         out = labsys("play", str(folder / "trail"), given=path.read_bytes())[1].decode("ascii")
         ends = [split_words(line.encode("ascii"))[0] for line in out.split("\n") if line.startswith("end ")]
         living = {life["pid"]: life["moments"][-1] for life in run["processes"] if not life["ended"]}
@@ -259,6 +262,9 @@ def test_lanes(folder):
             lane = re.fullmatch(r"--l:(\d+)", row["style"])
             name = tag if kind is LaneKind.PROCESS else tag.partition("@")[2]
             require(names[int(lane[1])] == name if lane else kind is LaneKind.NONE, f"lane of {tag}")
+        if kind is LaneKind.NONE:
+            options = re.search(r'<select id="label">(.*?)</select>', page)[1].count("<option") - 1
+            require(options == 64 and "12 more labels" in page, f"{options} of 76 labels")
     spans = Lanes(LaneKind.PROCESS, ("a", "b", "c"), ((0, 1 << 62), (2, 4), (0, 1)))
     patterns = make_patterns(spans)
     present = [sorted(patterns.sets[patterns.at(call)]) for call in range(1, 7)]

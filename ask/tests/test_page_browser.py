@@ -69,7 +69,8 @@ OVERLAPS = """(() => {
   const found = [];
   for (const row of document.querySelectorAll("tr")) {
     const boxes = [...row.children].map(cell => cell.getBoundingClientRect());
-    boxes.forEach((box, index) => { if (index && box.left + 0.5 < boxes[index - 1].right) found.push("cells " + row.textContent.slice(0, 40)); });
+    const over = boxes.some((box, index) => index && box.left + 0.5 < boxes[index - 1].right);
+    if (over) found.push("cells " + row.textContent.slice(0, 40));
   }
   for (const cell of document.querySelectorAll("td:not(.g), th:not(.g), h1, h2, p, li, option, output, button"))
     if (cell.scrollWidth > cell.clientWidth + 1 && cell.clientWidth) found.push(cell.tagName + " " + cell.textContent.slice(0, 60));
@@ -80,6 +81,29 @@ OVERLAPS = """(() => {
   if (document.documentElement.scrollWidth > innerWidth) found.push("the page is wider than the window");
   return found;
 })()"""
+
+
+PRINTED = """[...document.querySelectorAll("tr[id^=call-]")].filter(row => row.getBoundingClientRect().height > 5).length"""
+SET = """(() => {
+  const control = document.getElementById(%r);
+  control.value = %r;
+  control.dispatchEvent(new Event(%r));
+})()"""
+
+
+def replies_of(text):
+    """The reply lines of a world that is played."""
+    return reply_lines(labsys("play", "/dev/null", given=text)[1])
+
+
+def view_of(label, text):
+    """The reply lines of a world that a label sees."""
+    return reply_lines(labsys("view", label, given=text)[1])
+
+
+def rows_of(page):
+    """The reply lines that the rows of a page say which are not grey."""
+    return list(as_lines(page.evaluate(SEEN)))
 
 
 def as_lines(seen):
@@ -99,7 +123,7 @@ def up_to(world, call):
 def compare_label(page, world, label):
     """Compares what the page shows of a chosen label with `view`, and the crossing with views of beginnings of the script."""
     view = labsys("view", label, given=world.text)[1]
-    require(list(as_lines(page.evaluate(SEEN))) == reply_lines(view), f"label {label}: rows differ from the view")
+    require(rows_of(page) == reply_lines(view), f"label {label}: rows differ from the view")
     crossing = page.evaluate(CROSSING)
     if b"\ncrossed\n" in b"\n" + view:
         require(len(crossing) == 1, f"label {label}: {len(crossing)} crossings are marked")
@@ -151,12 +175,12 @@ def test_choices(browser, folder):
         text = (EXAMPLES / f"{name}.txt").read_bytes()
         world, page = read_world(text), browser.page()
         path = make_page(EXAMPLES / f"{name}.txt", folder)
-        lines, records = reply_lines(labsys("play", "/dev/null", given=text)[1]), trail_of(text, folder)
+        lines, records = replies_of(text), trail_of(text, folder)
         page.open(path)
         named = page.evaluate("[...document.getElementById('label').options].map(option => option.value).filter(Boolean)")
         require(set(world.policy.levels) | {each.label for each in world.processes} <= set(named), f"{name}: labels {named}")
-        require(list(as_lines(page.evaluate(SEEN))) == lines, f"{name}: rows without a label")
-        views = {label: reply_lines(labsys("view", label, given=text)[1]) for label in named}
+        require(rows_of(page) == lines, f"{name}: rows without a label")
+        views = {label: view_of(label, text) for label in named}
         for number, label in enumerate(named):
             page.open(path, f"#label={quote(label, safe='')}&call={number % len(lines) + 1}")
             compare_label(page, world, label)
@@ -217,13 +241,13 @@ def test_without_scripts(browser, folder):
     page.scripts(False)
     page.open(make_page(EXAMPLES / "lesson.txt", folder))
     shown = page.evaluate("document.body.innerText")
-    for line in reply_lines(labsys("play", "/dev/null", given=text)[1]):
+    for line in replies_of(text):
         require(all(word in shown for word in line.split(" ")), f"the page without scripts lacks {line}")
     require("Scripts are off" in shown and "See as label" not in shown, "what is shown without scripts")
     world = folder / "long.txt"
     world.write_bytes(labsys("gen", "1000")[1])
     page.open(make_page(world, folder))
-    require(list(as_lines(page.evaluate(SEEN))) == reply_lines(labsys("play", "/dev/null", given=world.read_bytes())[1]), "rows of 1,000 calls")
+    require(rows_of(page) == replies_of(world.read_bytes()), "rows of 1,000 calls")
     return "all rows without scripts"
 
 
@@ -237,9 +261,8 @@ def test_print(browser, folder):
     page.media("print")
     require(not page.evaluate("document.getElementById('label').checkVisibility()"), "controls are printed")
     require("l1 sees" in page.evaluate("document.getElementById('said').innerText"), "the label that was chosen is not printed")
-    heights = page.evaluate("[...document.querySelectorAll('tr[id^=call-]')].filter(row => row.getBoundingClientRect().height > 5).length")
-    require(heights == 1000, f"{heights} rows are printed")
-    require(list(as_lines(page.evaluate(SEEN))) == reply_lines(labsys("view", "l1", given=world.read_bytes())[1]), "what is grey in print")
+    require(page.evaluate(PRINTED) == 1000, f"{page.evaluate(PRINTED)} rows are printed")
+    require(rows_of(page) == view_of("l1", world.read_bytes()), "what is grey in print")
     pages = len(re.findall(rb"/Type\s*/Page\b", page.printed()))
     require(pages > 10, f"{pages} printed pages")
     return f"1,000 calls on {pages} printed pages"
@@ -259,7 +282,8 @@ def test_looks(browser, folder):
             page.open(path, f"#label={LABELS.get(world.stem, 'public')}&call=2")
             require(page.evaluate("document.querySelectorAll('.unseen, .picked').length") > 0, f"{world.name}: nothing is chosen")
             require(page.evaluate(CONTRAST) == [], f"{world.name}, {scheme}: contrast of {page.evaluate(CONTRAST)}")
-            require((page.evaluate("getComputedStyle(document.body).backgroundColor") == "rgb(255, 255, 255)") == (scheme == "light"), scheme)
+            paper = page.evaluate("getComputedStyle(document.body).backgroundColor")
+            require((paper == "rgb(255, 255, 255)") == (scheme == "light"), f"{scheme}: {paper}")
         for width in (1200, 1600, 700, 400):
             page.resize(width, 900)
             require(page.evaluate(OVERLAPS) == [], f"{world.name}, {width} pixels: {page.evaluate(OVERLAPS)}")
@@ -274,11 +298,11 @@ def test_large(browser, folder):
     world.write_bytes(labsys("gen", str(GENERATED))[1])
     page, text = browser.page(), read_world(world.read_bytes())
     page.open(make_page(world, folder))
-    page.evaluate("(() => { const label = document.getElementById('label'); label.value = 'l1'; label.dispatchEvent(new Event('change')); })()")
-    seen, view = list(as_lines(page.evaluate(SEEN))), reply_lines(labsys("view", "l1", given=text.text)[1])
+    page.evaluate(SET % ("label", "l1", "change"))
+    seen, view = rows_of(page), view_of("l1", text.text)
     require(seen and (seen == view[: len(seen)]), "the first rows differ from the view")
-    page.evaluate("(() => { const call = document.getElementById('call'); call.value = 7777; call.dispatchEvent(new Event('input')); })()")
-    lines = reply_lines(labsys("play", "/dev/null", given=text.text)[1])
+    page.evaluate(SET % ("call", "7777", "input"))
+    lines = replies_of(text.text)
     compare_call(page, text, 7777, lines, trail_of(text.text, folder))
     inside = page.evaluate("(() => { const box = document.getElementById('call-7777').getBoundingClientRect(); "
                            "return box.top >= 0 && box.bottom <= innerHeight; })()")
