@@ -1,4 +1,4 @@
-"""The question `cuts`: which single changes of the world have a call of the script denied, and how many other replies each changes."""
+"""The question `cuts`: which single changes of the world have a call denied, and how many other replies each changes."""
 import argparse
 import dataclasses
 import re
@@ -10,7 +10,7 @@ from capability_texts import read_sets
 from observing import prefixes
 from playing import Outcome, Played, Player, Reply, Session
 from signatures import CALLS, CAPABILITIES, UTILITIES, arguments_of
-from worlds import Kind, Policy, ScriptLine, World, WorldObject, WorldProcess, canonical_path, path_word, read_file, read_world
+from worlds import Policy, ScriptLine, World, WorldObject, WorldProcess, canonical_path, path_word, read_file, read_world
 
 Thing = Union[WorldObject, WorldProcess]
 NUMBER = re.compile(r"\d+@[A-Za-z][\w:,/-]*")

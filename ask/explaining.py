@@ -88,9 +88,10 @@ def path_fault(value: bytes) -> Optional[str]:
 
 def flags_fault(text: str) -> Optional[str]:
     """What is wrong with the flags of `open`."""
-    if not text or text.strip(OPEN_FLAGS) or [OPEN_FLAGS.index(flag) for flag in text] != sorted({OPEN_FLAGS.index(f) for f in text}):
-        return f"letters in the order {OPEN_FLAGS}" if not text.strip(OPEN_FLAGS) and len(set(text)) == len(text) and text else \
-            f"letters of {OPEN_FLAGS} in this order, each at most once"
+    if not text or text.strip(OPEN_FLAGS) or len(set(text)) < len(text):
+        return f"letters of {OPEN_FLAGS} in this order, each at most once"
+    if sorted(text, key=OPEN_FLAGS.index) != list(text):
+        return f"letters in the order {OPEN_FLAGS}"
     if not set(text) & set("rw"):
         return "r or w is due"
     if "x" in text and "c" not in text:
@@ -164,9 +165,10 @@ def value_findings(name: str, word: Word, policy: Policy) -> Iterator[Finding]:
     if name in simple and simple[name](word.text):
         yield on_word("syntax", name, word, simple[name](word.text))
     elif name == "PATH":
-        fault = path_fault(word.value) or (None if word.value.startswith(b"/") else "expected an absolute path, which begins with /")
-        if fault:
-            yield on_word("syntax", name, word, fault)
+        if path_fault(word.value):
+            yield on_word("syntax", name, word, path_fault(word.value))
+        elif not word.value.startswith(b"/"):
+            yield on_word("syntax", name, word, "expected an absolute path, which begins with /")
     elif name == "LABEL":
         for fault in label_faults(word.text, policy):
             yield in_word("unknown_name" if fault.unknown else "syntax", name, word, fault)
@@ -222,7 +224,8 @@ def place_findings(world: World, line: Line) -> Iterator[Finding]:
     elif parent[1] != "dir":
         yield on_word("no_parent", "PATH", word, f"{directory} of line {parent[0]} is no directory, but a {parent[1]}")
     else:
-        yield on_word("label_order", "LABEL", label, f"it does not dominate {parent[2]}, the label of {directory} in line {parent[0]}")
+        due = f"it does not dominate {parent[2]}, the label of {directory} in line {parent[0]}"
+        yield on_word("label_order", "LABEL", label, due)
 
 
 def crowd_findings(line: Line, label: Word, most: int, what: str) -> Iterator[Finding]:
@@ -295,7 +298,8 @@ def world_findings(world: World, line: Line) -> Iterator[Finding]:
     if not line.words:
         return
     before = [each.words[0].text for each in world.lines.filled() if each.number < line.number]
-    due: List[Tuple[str, ...]] = [("levels",), ("categories",), ("grades", "bound")] + ([("bound",)] if "grades" in before[:4] else [])
+    due: List[Tuple[str, ...]] = [("levels",), ("categories",), ("grades", "bound")]
+    due += [("bound",)] if "grades" in before[:4] else []
     if not before:
         yield from format_findings(line)
     elif len(before) <= len(due):

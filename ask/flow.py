@@ -267,7 +267,7 @@ def report(flow: Flow, found: Optional[Found], arguments: argparse.Namespace) ->
     if found is None:
         without = f" that do not use {' and '.join(arguments.without)}" if arguments.without else ""
         yield f"No calls{without} were found by which the bytes of {source} get to {goal}, at most {arguments.depth} of them."
-        yield f"{flow.actors} states of processes were tried; {flow.holders} objects and states of processes, with FROM, held the bytes."
+        yield f"{flow.actors} states of processes were tried; {flow.holders} objects and states of processes held the bytes."
         yield f"{PLAYED} {NOT_ABSENT}"
         return
     yield f"# The bytes of {source} get to {goal} by {len(found.calls)} calls:"

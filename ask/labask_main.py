@@ -64,8 +64,9 @@ class QuestionParser(argparse.ArgumentParser):
 
 def add_program(parser: argparse.ArgumentParser, default: Optional[str]) -> None:
     """Adds the option that names the program."""
-    parser.add_argument("--labsys", metavar="PROGRAM", default=default, help="the program labsys; else that of the variable LABSYS, "
-                        "the one beside the folder of labask, or the one on PATH")
+    parser.add_argument("--labsys", metavar="PROGRAM", default=default,
+                        help="the program labsys; else that of the variable LABSYS, the one beside the folder of labask, or the "
+                        "one on PATH")
 
 
 def make_parser() -> QuestionParser:

@@ -37,7 +37,9 @@ class ObjectFacts:
     def text(self) -> str:
         """The object in words, without its line."""
         where = path_word(self.path) if self.path else f"object {self.number}, to which no path leads"
-        return where + (f": {self.kind} {self.mode}, owner {self.owner}, group {self.group}, label {self.label}" if self.kind else "")
+        if not self.kind:
+            return where
+        return f"{where}: {self.kind} {self.mode}, owner {self.owner}, group {self.group}, label {self.label}"
 
 
 @dataclass(frozen=True)
@@ -61,7 +63,8 @@ class ProcessFacts:
         """The effective capabilities in words, with the sets where they have more."""
         effective = read_sets(self.caps).effective
         names = ",".join(name for name in CAPABILITIES if name in effective) or "none"
-        return f"effective capabilities {names}" + ("" if self.caps in ("=", f"{names}=ep") else f" of {quoted(self.caps.encode())}")
+        more = "" if self.caps in ("=", f"{names}=ep") else f" of {quoted(self.caps.encode())}"
+        return f"effective capabilities {names}{more}"
 
 
 @dataclass

@@ -6,7 +6,7 @@ import pathlib
 import shutil
 import subprocess
 import tempfile
-from dataclasses import dataclass
+from dataclasses import dataclass, replace
 from functools import cached_property
 from typing import Any, Dict, Iterator, List, Optional, Sequence, Tuple
 
@@ -190,7 +190,8 @@ class Player:
 class Session:
     """A run of `labsys` that is asked call by call: a line is sent, and its replies are read.
 
-    Used as a context; the process ends with it. `replies` counts the calls that were made so far, and `sent` the bytes of the input.
+    Used as a context; the process ends with it. `replies` counts the calls that were made so far, and `sent`
+    the bytes of the input.
     """
     BATCH_BYTES = 16_384  # less than a pipe holds, so that sending never waits for replies to be read
     MOST_READ = 4_096  # replies that are kept, since most are the same but for their tag
@@ -239,8 +240,7 @@ class Session:
         if rest not in self._read:
             self._read = self._read if len(self._read) < self.MOST_READ else {}
             self._read[rest] = read_reply(0, split_words(line.rstrip(b"\n"))[0])
-        one = self._read[rest]
-        return Reply(self.replies, tag.decode("latin-1"), one.call, one.outcome, one.error, one.check, one.place, one.words, one.path)
+        return replace(self._read[rest], number=self.replies, tag=tag.decode("latin-1"))
 
     def line(self, text: str, calls: int = 1) -> List[Reply]:
         """The replies to a line of the script that makes so many calls."""

@@ -1,7 +1,7 @@
 """Looks for calls by which the bytes of an object get further: what holds them is widened step by step, and each step is played.
 
-One run is asked throughout. In it each actor, a state that a process of the world can get into, is a child of that process. An actor
-is asked whether it may open an object for reading or for writing; nothing is written, so that the run stays as it began.
+One run is asked throughout. In it each actor, a state that a process of the world can get into, is a child of that process. An
+actor is asked whether it may open an object for reading or for writing; nothing is written, so that the run stays as it began.
 """
 import enum
 import heapq
@@ -360,4 +360,5 @@ class Spread:
     def new_path(self, directory: bytes) -> bytes:
         """The path of a file that is not there."""
         taken = self.namer.taken.get(directory, set()) | {path.rpartition(b"/")[2] for _, path in self.run.made}
-        return join_path(directory, next(name for name in (f"copy{number}" for number in itertools.count(1)) if name.encode() not in taken))
+        names = (f"copy{number}" for number in itertools.count(1))
+        return join_path(directory, next(name for name in names if name.encode() not in taken))

@@ -12,7 +12,8 @@ from typing import Any, Dict, Iterable, Iterator, List, NamedTuple, Optional, Se
 
 from answers import PLAYED, Progress, WrongWords, table, write_json
 from playing import Outcome, Player, Played, Reply, read_reply
-from worlds import Kind, World, WorldObject, WorldProcess, canonical_path, parent_path, path_word, read_file, read_world, split_words
+from worlds import (Kind, World, WorldObject, WorldProcess, canonical_path, parent_path, path_word, read_file, read_world,
+                    split_words)
 
 MAX_LINE, MAX_PATH, MAX_NAMES = 2_048, 1_023, 32
 PLAY_BYTES = 3_145_728  # of a script, so that its trail stays within what `select` reads

@@ -64,8 +64,9 @@ class Explained:
         return {
             "call": self.reply.number, "line": self.line.line.number, "text": self.line.text.strip(),
             "reply": self.reply.text, "outcome": self.reply.outcome.value, "error": self.reply.error, "check": self.reply.check,
-            "place": self.reply.place, "words": self.words, "object": object_as_json(self), "process": process_as_json(self.process),
-            "caller": process_as_json(self.caller), "exercised": list(self.used), "notes": self.notes,
+            "place": self.reply.place, "words": self.words, "object": object_as_json(self),
+            "process": process_as_json(self.process), "caller": process_as_json(self.caller),
+            "exercised": list(self.used), "notes": self.notes,
             "passes_with": None if self.passing is None else {
                 "capabilities": list(self.passing.capabilities), "permitted": list(self.passing.permitted),
                 "reply": self.passing.reply.text, "complete": self.passing.complete},

@@ -9,8 +9,8 @@ Each world `examples/NAME.txt` is played. `examples/NAME.out` has its output, an
 
 On a page, a block between two lines ``` is played where it begins with `$ `. Each line of it that begins with `$ ` is a
 command for `sh`. The lines after it, up to the next command or the end of the block, are what the command writes. The
-commands of a page run in one folder, where `labsys` is COMMAND, and `examples` and `ask` are those of the repository. A block that
-begins with `world ` is an input that `labsys check` accepts. No other block may show a command of `./labsys`.
+commands of a page run in one folder, where `labsys` is COMMAND, and `examples` and `ask` are those of the repository. A block
+that begins with `world ` is an input that `labsys check` accepts. No other block may show a command of `./labsys`.
 """
 import argparse
 import difflib

@@ -47,7 +47,7 @@ def case_inputs():
 
 
 def dominates(one, other, levels):
-    """Whether a label dominates another, in a world without grades: its level is at least as high, its categories include the other's."""
+    """Whether a label dominates another without grades: its level is as high, and its categories include the other's."""
     (level, _, names), (other_level, _, other_names) = one.partition(":"), other.partition(":")
     held, needed = set(filter(None, names.split(","))), set(filter(None, other_names.split(",")))
     return levels.index(level) >= levels.index(other_level) and needed <= held
@@ -71,7 +71,8 @@ def random_world(draw, caps=()):
     for number in range(draw.randint(3, 7)):
         parent, above = draw.choice(directories)
         label, path = random_label(draw, levels, categories, above), f"{parent}/n{number}"
-        mode, ids = f"{draw.choice((0o777, 0o755, 0o750, 0o666, 0o644, 0o600, draw.randrange(0o1000))):04o}", f"{draw.choice((0, 10, 20))} {draw.choice((0, 10))}"
+        mode = f"{draw.choice((0o777, 0o755, 0o750, 0o666, 0o644, 0o600, draw.randrange(0o1000))):04o}"
+        ids = f"{draw.choice((0, 10, 20))} {draw.choice((0, 10))}"
         kind = draw.choice(("dir", "file", "file", "file", "fifo"))
         if kind == "dir":
             directories.append((path, label))
@@ -79,7 +80,8 @@ def random_world(draw, caps=()):
         lines.append(f"{kind} {path} {mode} {ids} {label}" + (f' "bytes of {number}"{held}' if kind == "file" else ""))
     for _ in range(draw.randint(2, 4)):
         sets = f"{draw.choice(caps)}=ep" if caps and draw.random() < 0.7 else "="
-        lines.append(f"proc {random_label(draw, levels, categories)} {draw.choice((0, 10, 20))} {draw.choice((0, 10))} - \"{sets}\"")
+        ids = f"{draw.choice((0, 10, 20))} {draw.choice((0, 10))}"
+        lines.append(f"proc {random_label(draw, levels, categories)} {ids} - \"{sets}\"")
     return ("\n".join([*lines, "script"]) + "\n").encode(), levels
 
 

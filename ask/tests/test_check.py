@@ -1,5 +1,5 @@
 #!/usr/bin/env python3
-"""Tests the question `check`: the line that it names is the one that `labsys` names, and it finds a fault of the kind of the refusal.
+"""Tests the question `check`: it names the line that `labsys` names, and finds a fault there of the kind of the refusal.
 
 The usual mistakes are those of docs/FORMATS.md; a thousand more texts are examples with a change from a seed.
 """
@@ -56,7 +56,7 @@ def mistake_faults(folder):
     for text, last, shown in mistakes.mistakes_of((TOP / "docs" / "FORMATS.md").read_text()):
         found = re.match(r"refused (\d+) ", last)
         status, lines = answer_about(text.encode(), folder)
-        good = status == 2 and lines[0].startswith(f"world.txt:{found[1]}: ") and lines[-1] == f"labsys: {last}" if found else status == 0
+        good = status == 2 and lines[0].startswith(f"world.txt:{found[1]}: ") and lines[-1] == f"labsys: {last}" if found else not status
         if not good or NOTHING in lines[0]:
             yield f"{shown}: {lines}"
 

@@ -1,5 +1,5 @@
 #!/usr/bin/env python3
-"""Tests the question `cuts`: each row, applied and played in a run of its own, has the call not done, and as many other replies changed.
+"""Tests the question `cuts`: each row, played in a run of its own, has the call not done, and as many other replies changed.
 
 The single changes of a small world are counted by hand.
 """

@@ -10,7 +10,7 @@ import subprocess
 import sys
 import tempfile
 
-from support import TOP, labask, report
+from support import TOP, report
 
 import examples
 import labask_main

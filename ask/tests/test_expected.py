@@ -73,7 +73,8 @@ def status_faults(folder):
     refused = folder / "refused.txt"
     refused.write_text("world 2\nlevels a\ncategories\nbound all\ndir / 0755 0 0 a\ndir /b 0755 0 0 c\nscript\n")
     good, said = TOP / "examples" / "lesson.txt", f"{refused}:6: LABEL \"c\": unknown level c; levels are a"
-    due = [(0, ("check", good)), (1, ()), (1, ("what",)), (1, ("check",)), (1, ("check", folder / "none")), (1, ("who", good, "/none")),
+    due = [(0, ("check", good)), (1, ()), (1, ("what",)), (1, ("check",)), (1, ("check", folder / "none")),
+           (1, ("who", good, "/none")),
            (1, ("who", good, "--process", "9@public")), (1, ("why", good, 99)), (1, ("flow", good, "/exam", "1@public")),
            (1, ("flow", good, "/exam/marks", "/exam")), (1, ("flow", good, "/exam/marks", "/exam/marks")), (1, ("cuts", good, 2)),
            (70, ("check", good, "--labsys", folder / "none")), (70, ("--labsys", folder / "none", "who", good))]

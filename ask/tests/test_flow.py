@@ -1,8 +1,9 @@
 #!/usr/bin/env python3
 """Tests the question `flow`.
 
-By isolation, no bytes get to what does not dominate their object, where no world has capabilities: a thousand random worlds without
-capabilities and set-id bits. The leak of the example policy is found, its script gives the bytes, and it is gone after the first cut.
+By isolation, no bytes get to what does not dominate their object where there are no capabilities: this is asked of a thousand random
+worlds without capabilities and set-id bits. The leak of the example policy is found, its script gives the bytes, and it is gone after
+the first cut.
 """
 import json
 import pathlib
@@ -83,7 +84,8 @@ def without_faults():
 # worlds with one way each: the objects and processes, FROM, TO, and a call of the script that only this way has
 WAYS = [
     ("another process writes what the next one reads",
-     'file /a 0600 10 10 low "secret"\nfile /b 0666 0 0 low ""\nproc low 10 10 - "="\nproc low 11 11 - "="\n', "/a", "2@low", "write 1"),
+     'file /a 0600 10 10 low "secret"\nfile /b 0666 0 0 low ""\nproc low 10 10 - "="\nproc low 11 11 - "="\n', "/a", "2@low",
+     "write 1"),
     ("a new file", 'file /a 0600 10 10 low "secret"\nproc low 10 10 - "="\nproc low 11 11 - "="\n', "/a", "2@low", "wcx 0666"),
     ("a FIFO", 'dir /d 0755 0 0 low\nfile /d/a 0600 10 10 low "secret"\nfifo /d/p 0666 0 0 low\nproc low 10 10 - "="\n'
      'proc low 11 11 - "="\n', "/d/a", "2@low", "open /d/p r"),
@@ -91,8 +93,8 @@ WAYS = [
      'proc high 10 10 - "cap_mac_downgrade=ep"\n', "/a", "1@low", "mac_set_file"),
     ("a process gets another label", 'file /a 0644 0 0 high "secret"\nfile /b 0666 0 0 low ""\nproc low 11 11 - "="\n'
      'proc high 10 10 - "cap_mac_relabel_subj=ep"\n', "/a", "/b", "mac_set_proc low"),
-    ("a pipe", 'file /a 0600 5 5 low "secret"\nfile /b 0600 10 10 low ""\nfile /x 4755 5 5 low "x"\nproc low 10 10 - "="\n', "/a", "/b",
-     "pipe"),
+    ("a pipe", 'file /a 0600 5 5 low "secret"\nfile /b 0600 10 10 low ""\nfile /x 4755 5 5 low "x"\nproc low 10 10 - "="\n',
+     "/a", "/b", "pipe"),
     ("a permitted capability", 'file /a 0600 5 5 low "secret"\nproc low 10 10 - "cap_dac_read_search=p"\n', "/a", "1@low",
      "cap_set_proc"),
 ]
@@ -118,8 +120,9 @@ def main():
     faults += isolation_faults(asked, counts)
     if min(counts["found"], counts["below"]) < 100:
         faults.append(f"too few questions of a kind: {counts}")
-    report(f"questions of {WORLDS} worlds, {counts['found']} with a way, {counts['below']} to what does not dominate; the leak of the "
-           f"example, and {len(WAYS)} other ways", counts["asked"] - len(faults), faults)
+    what = (f"questions of {WORLDS} worlds, {counts['found']} with a way, {counts['below']} to what does not dominate; the leak of "
+            f"the example, and {len(WAYS)} other ways")
+    report(what, counts["asked"] - len(faults), faults)
 
 
 if __name__ == "__main__":

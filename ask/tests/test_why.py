@@ -1,8 +1,8 @@
 #!/usr/bin/env python3
 """Tests the question `why` on the examples and the cases.
 
-What it says of a denied call is compared with the documents, which say which capability overrides a check, and with runs of its own:
-the object is what `stat` answers to a process that may read everything, and the call passes in a world with the capability.
+What it says of a denied call is compared with the documents, which say which capability overrides a check; the path of the object
+with the place of the denial; its line with that of the world. A script that changes an object first shows the moment of the call.
 """
 import re
 
@@ -89,9 +89,11 @@ def input_faults(name, text, asked, checks, counts):
 
 def moment_faults(asked):
     """Whether the object is described as it is at the moment of the call, not as the world has it."""
-    head = (b"world 2\nlevels low high\ncategories\nbound all\ndir / 0777 0 0 low\ndir /d 0777 0 0 low\nfile /d/f 0644 10 10 low \"x\"\n"
+    head = (b"world 2\nlevels low high\ncategories\nbound all\ndir / 0777 0 0 low\ndir /d 0777 0 0 low\n"
+            b"file /d/f 0644 10 10 low \"x\"\n"
             b"proc low 10 10 - \"=\"\nproc low 11 11 - \"=\"\nscript\n")
-    script = b"1@low chmod /d/f 0600\n1@low rename /d/f /d/g\n2@low chdir /d\n1@low rename /d /e\n2@low open g r\n1@low unlink /e/none\n"
+    script = (b"1@low chmod /d/f 0600\n1@low rename /d/f /d/g\n2@low chdir /d\n1@low rename /d /e\n2@low open g r\n"
+              b"1@low unlink /e/none\n")
     text = head + script
     found = list(why.explain_all(read_world(text), asked.play_accepted(text), asked, None))
     lines = [line for each in found for line in each.lines()]
