@@ -3,7 +3,7 @@ from dataclasses import dataclass, replace
 from typing import Any, Dict, FrozenSet, Iterable, List, Optional, Sequence, Tuple
 
 from capability_texts import Sets, read_sets
-from playing import Outcome, Player, Reply, Session
+from playing import Outcome, Player, Refused, Reply, Session
 from signatures import CAPABILITIES, arguments_of
 from worlds import ScriptLine, World, quoted
 
@@ -45,11 +45,15 @@ def lineage_of(tag: str, records: Sequence[Dict[str, Any]]) -> Lineage:
     return Lineage(processes[-1], tuple(dict.fromkeys(files)), frozenset(processes))
 
 
-def added(caps: Optional[str], names: Iterable[str]) -> str:
+def listed(names: Sequence[str]) -> str:
+    """The list of capabilities of a clause."""
+    return "all" if len(names) == len(CAPABILITIES) else ",".join(names)
+
+
+def added(caps: Optional[str], names: Sequence[str]) -> str:
     """A capability text that permits these besides; what is effective in a file stays none or all."""
     flags = "ep" if caps is not None and read_sets(caps).effective else "p"
-    listed = ",".join(names)
-    return f"{caps} {listed}+{flags}" if caps is not None else f"{listed}=p"
+    return f"{caps} {listed(names)}+{flags}" if caps is not None else f"{listed(names)}=p"
 
 
 def granting_head(world: World, lineage: Lineage, names: Sequence[str]) -> bytes:
@@ -57,7 +61,7 @@ def granting_head(world: World, lineage: Lineage, names: Sequence[str]) -> bytes
     changed: Dict[int, bytes] = {}
     ancestor = world.processes_by_tag[lineage.ancestor]
     line = world.lines[ancestor.line - 1]
-    changed[line.number] = with_last_word(line.text, line.words[5].column, f"{ancestor.caps} {','.join(names)}+p")
+    changed[line.number] = with_last_word(line.text, line.words[5].column, f"{ancestor.caps} {listed(names)}+p")
     for number in lineage.files:
         target = world.objects_by_number.get(number)
         if target is not None:
@@ -67,7 +71,7 @@ def granting_head(world: World, lineage: Lineage, names: Sequence[str]) -> bytes
     bound = next(line for line in world.lines if line.words and line.words[0].text == "bound")
     if lineage.files:
         kept = "" if world.bound == "none" else world.bound + ","
-        changed[bound.number] = f"bound {kept}{','.join(names)}".encode("ascii")
+        changed[bound.number] = f"bound {kept}{listed(names)}".encode("ascii")
     return world.head(changed)
 
 
@@ -100,7 +104,7 @@ class Trial:
         """The line of a call, where those that set the capability sets of the lineage keep what is permitted besides."""
         if line.call != "cap_set_proc" or line.tag not in self.lineage.processes:
             return line.single(call)
-        return f"{line.tag} cap_set_proc {quoted((line.arguments[0].text + ' ' + ','.join(self.names) + '+p').encode('latin-1'))}"
+        return f"{line.tag} cap_set_proc {quoted(f'{line.arguments[0].text} {listed(self.names)}+p'.encode('latin-1'))}"
 
     def advance(self, line: ScriptLine, call: int, replies: Sequence[Reply]) -> bool:
         """Plays what was done before a call; says whether it is answered as in the run itself. What was not done left no change."""
@@ -201,10 +205,13 @@ class Trials:
     def tried(self, trial: Trial, line: ScriptLine, denied: Reply) -> Optional[Passing]:
         """What a trial finds that is played up to the call."""
         trial.spent = line.calls > 1  # the line is played in part
-        if not trial.advance(line, denied.number, self.replies):
-            trial.departed = trial.spent = True
-            return None
-        return trial.passing(line.single(denied.number), denied)
+        try:
+            if trial.advance(line, denied.number, self.replies):
+                return trial.passing(line.single(denied.number), denied)
+        except Refused:  # a line became too long by what it permits
+            pass
+        trial.departed = trial.spent = True
+        return None
 
     def alone(self, line: ScriptLine, denied: Reply, names: Sequence[str]) -> Optional[Passing]:
         """What a trial of its own finds with some capabilities."""
