@@ -26,20 +26,18 @@ class Traced:
 
 
 def traced_calls(world: World) -> Iterator[Traced]:
-    """The calls of the log that the comments of a script name, each with the lines that follow its comment."""
+    """The calls of the log that the comments of a script name, each with the lines that follow its comments."""
     by_line = {each.line.number: each for each in world.script}
     named: Optional[int] = None
-    lines: List[ScriptLine] = []
+    lines: Dict[int, List[ScriptLine]] = {}
     for line in world.lines[world.script_line or len(world.lines):]:
         found = COMMENT.match(line.text)
         if found:
-            if named is not None and lines:
-                yield Traced(named, tuple(lines))
-            named, lines = int(found[1]) if found[2] == b": " else None, []
-        elif line.number in by_line:
-            lines.append(by_line[line.number])
-    if named is not None and lines:
-        yield Traced(named, tuple(lines))
+            named = int(found[1]) if found[2] == b": " else None
+        elif line.number in by_line and named is not None:
+            lines.setdefault(named, []).append(by_line[line.number])
+    for log_line, played in lines.items():
+        yield Traced(log_line, tuple(played))
 
 
 def compare_all(world: World, log: Log, replies: Sequence[Reply]) -> List[Comparison]:

@@ -61,6 +61,7 @@ CONTENT = "content that the world does not have"
 NAMES = "names of what no world has"
 PIPE_STATUS = "size and link count of a pipe or FIFO"
 NO_CODE = "programs without code"
+ROOM = "the room of a pipe or FIFO"
 
 # by the word of the call, what is replied here, and what the log has
 KNOWN: Dict[Tuple[str, str, str], str] = {
@@ -74,6 +75,7 @@ KNOWN: Dict[Tuple[str, str, str], str] = {
     ("read", "EAGAIN", DONE): WAITING,
     ("write", "EAGAIN", DONE): WAITING,
     ("wait", "EAGAIN", DONE): WAITING,
+    ("write", "EPIPE", DONE): ROOM,
     ("write", "EINVAL", DONE): PAST_END,
     ("lseek", "EINVAL", DONE): PAST_END,
     ("kill", "ESRCH", DONE): ENDED_CHILD,
@@ -148,9 +150,9 @@ def status_difference(kind: str, name: str, here: int, there: Optional[int]) -> 
     return Verdict.OTHER, f"{name} {here}, and {there} in the log"
 
 
-def compare_read(call: Call, reply: Reply, tags: Dict[int, str]) -> None:
+def compare_read(call: Call, here: bytes) -> None:
     """Compares the bytes that were read, as far as the log has them."""
-    here, count = reply.words[0].value, call.result.number or 0
+    count = call.result.number or 0
     there = b"".join(texts_of(call))
     handle = call.arguments[0].handle
     if len(here) < count and handle and handle.path and handle.path.startswith(b"pipe:"):
@@ -234,7 +236,7 @@ def compare_process(call: Call, reply: Reply, tags: Dict[int, str]) -> None:
 
 
 VALUES: Dict[str, Callable[[Call, Reply, Dict[int, str]], None]] = {
-    "stat": compare_status, "fstat": compare_status, "read": compare_read, "umask": compare_umask, "lseek": compare_number,
+    "stat": compare_status, "fstat": compare_status, "umask": compare_umask, "lseek": compare_number,
     "getids": compare_ids, "readdir": compare_names, "wait": compare_wait, "getpid": compare_process,
 }
 
@@ -249,6 +251,9 @@ def compare_written(call: Call, replies: Sequence[Reply]) -> None:
 def compare_values(call: Call, replies: Sequence[Reply], tags: Dict[int, str]) -> None:
     """Compares the answers of a call that was done here and in the log."""
     compare_written(call, replies)
+    read = [reply.words[0].value for reply in replies if reply.call == "read"]
+    if read:
+        compare_read(call, b"".join(read))
     for reply in replies:
         if call.name == "getppid":
             if reply.words[0].text == "none":

@@ -8,6 +8,7 @@ from strace.following import Descriptor, Following, Place, Process, base_and_pat
 from strace.log import Call
 from strace.script import Leave, Reason
 from strace.values import Argument, Handle
+from strace.waiting import Line, Pipe, PipeRead, PipeWrite, Waiting, nothing
 from worlds import quoted
 
 READ_BYTES = 65536
@@ -86,7 +87,7 @@ def open_file(following: Following, call: Call, process: Process) -> None:
         following.script.play(process.tag, "readdir", place.word)
         note_directory(process, found, place, closes)
         return
-    note_file(following, call, process, reply, Descriptor(None, place.real, place.path in following.fifos, False, closes))
+    note_file(following, call, process, reply, Descriptor(None, place.real, following.fifo(place.path), False, closes))
 
 
 def note_directory(process: Process, found: Optional[int], place: Place, closes: bool) -> None:
@@ -131,7 +132,7 @@ def close_range(following: Following, call: Call, process: Process) -> None:
 
 def asked(held: Descriptor, call: Call, count: int) -> str:
     """How many bytes a read asks for: of a pipe as many as the log got, since others may have written more meanwhile."""
-    if held.pipe and call.result.done and call.result.number:
+    if held.pipe is not None and call.result.done and call.result.number:
         count = call.result.number
     return str(max(0, min(count, READ_BYTES)))
 
@@ -148,6 +149,10 @@ def read(following: Following, call: Call, process: Process) -> None:
     """`read` and `readv`."""
     held = following.descriptor(process, call.arguments[0])
     count = counted(call)
+    if held.pipe is not None:
+        reading = PipeRead(Line(following, call, process, held), int(asked(held, call, count)))
+        following.queues.wait(process, Waiting(reading.step, nothing))
+        return
     following.script.call(call)
     following.script.play(process.tag, "read", str(held.played), asked(held, call, count))
 
@@ -178,8 +183,12 @@ def write(following: Following, call: Call, process: Process) -> None:
     """`write` and `writev`."""
     held = following.descriptor(process, call.arguments[0])
     content, lacking = gathered(call)
-    following.script.call(call)
     following.script.made_up += lacking
+    if held.pipe is not None and content and call.result.done:
+        writing = PipeWrite(Line(following, call, process, held), content)
+        following.queues.wait(process, Waiting(writing.step, writing.give_up, [held.pipe]))
+        return
+    following.script.call(call)
     write_pieces(following, process, held, content, call.result.done)
 
 
@@ -187,6 +196,8 @@ def write_pieces(following: Following, process: Process, held: Descriptor, conte
     """Writes bytes in as many lines as they need, up to the first that is not done; of a call that failed one line."""
     for piece in pieces(f"{process.tag} write {held.played} ", content):
         reply = following.script.play(process.tag, "write", str(held.played), quoted(piece))
+        if held.pipe is not None and reply.outcome is Outcome.DONE:
+            held.pipe.held += len(piece)
         if reply.outcome is not Outcome.DONE or not whole:
             return
 
@@ -325,9 +336,9 @@ def pipe(following: Following, call: Call, process: Process) -> None:
     if None in ends:
         raise Leave(Reason.NO_ARGUMENT)
     following.script.call(call)
-    reply = following.script.play(process.tag, "pipe")
+    reply, made = following.script.play(process.tag, "pipe"), Pipe()
     for index, end in enumerate(ends):
-        process.descriptors[end.number] = Descriptor(number_in(reply, index), None, True, False, closes)
+        process.descriptors[end.number] = Descriptor(number_in(reply, index), None, made, False, closes)
 
 
 def status(following: Following, call: Call, process: Process) -> None:

@@ -5,7 +5,7 @@ from typing import Dict, List, Optional
 
 from strace import attributes, files, lives, names
 from strace.following import Following, Process
-from strace.log import Call, Ended, Log
+from strace.log import Call, Ended, Event, Log
 from strace.script import Leave, Reason, Script
 from strace.values import unescaped
 
@@ -72,13 +72,61 @@ def follow_call(following: Following, call: Call) -> None:
         following.script.leave(call, Reason.NO_ARGUMENT, "arguments that are not read")
 
 
+def perform(following: Following, event: Event) -> None:
+    """Follows an event, and then the events of a process that has begun with it later than in the log."""
+    if isinstance(event, Call):
+        follow_call(following, event)
+        for late in following.queues.unborn.pop(event.result.number, ()) if event.name in lives.BEGINNING else ():
+            dispatch(following, late)
+    elif isinstance(event, Ended):
+        lives.end(following, event)
+    else:
+        following.script.leave_line(event.line, event.text)
+
+
+def dispatch(following: Following, event: Event) -> None:
+    """Follows an event, or keeps it for later where its process waits, or has not begun."""
+    pid = getattr(event, "pid", None)
+    process = following.processes.get(pid)
+    if pid in following.queues.unborn:
+        following.queues.unborn[pid].append(event)
+    elif process is None or process.waits is None:
+        perform(following, event)
+    else:
+        process.queue.append(event)
+        if isinstance(event, Call) and event.name in lives.BEGINNING and event.result.done:
+            following.queues.unborn[event.result.number] = collections.deque()
+
+
+def resume(following: Following, process: Process) -> None:
+    """Ends the waiting of a process, and follows its events up to where it waits again."""
+    following.queues.end(process)
+    while process.queue and process.waits is None:
+        perform(following, process.queue.popleft())
+
+
+def go_on(following: Following) -> None:
+    """Goes on with processes that wait, as long as one of them can."""
+    moved = True
+    while moved:
+        moved = False
+        for process in list(following.queues.waiting):
+            before = len(following.script.lines)
+            if process.waits is not None and process.waits.step():
+                resume(following, process)
+                moved = True
+            moved = moved or len(following.script.lines) > before
+
+
 def follow(following: Following, log: Log) -> Script:
-    """Follows a log, and gives its script."""
+    """Follows a log, and gives its script. At the end no process waits any more."""
     for event in log.events:
-        if isinstance(event, Call):
-            follow_call(following, event)
-        elif isinstance(event, Ended):
-            lives.end(following, event)
-        else:
-            following.script.leave_line(event.line, event.text)
+        dispatch(following, event)
+        if following.queues.waiting:
+            go_on(following)
+    while following.queues.waiting:
+        process = following.queues.waiting[0]
+        process.waits.give_up()
+        resume(following, process)
+        go_on(following)
     return following.script

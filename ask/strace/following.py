@@ -1,13 +1,15 @@
 """What is followed of a log: processes with their tags, descriptors and current directories, and where paths lead."""
+import collections
 import dataclasses
 from dataclasses import dataclass, field
-from typing import Dict, List, Optional, Set
+from typing import Deque, Dict, List, Optional, Set
 
 from directories import unfit_path
 from playing import Outcome, Reply
-from strace.log import Call
+from strace.log import Call, Event
 from strace.script import Leave, Reason, Script
 from strace.values import WORKING, Argument, Handle
+from strace.waiting import Pipe, Queues, Waiting
 from worlds import parent_path, path_word
 
 
@@ -24,7 +26,7 @@ class Descriptor:
     """A descriptor of a process of the log: its number in the world, if it has one there, and the path of the system."""
     played: Optional[int]
     real: Optional[bytes] = None
-    pipe: bool = False
+    pipe: Optional[Pipe] = None
     directory: bool = False
     closes: bool = False
 
@@ -40,6 +42,8 @@ class Process:
     threads: int = 1
     ended_children: int = 0
     parent: Optional["Process"] = None
+    waits: Optional[Waiting] = None
+    queue: Deque[Event] = field(default_factory=collections.deque)
 
     def child(self, tag: str) -> "Process":
         """A child as it is after `fork`."""
@@ -74,6 +78,12 @@ class Following:
     absent: Set[bytes]
     ends: Dict[int, List[str]]
     processes: Dict[int, Process] = field(default_factory=dict)
+    queues: Queues = field(default_factory=Queues)
+    pipes: Dict[bytes, Pipe] = field(default_factory=dict)
+
+    def fifo(self, path: bytes) -> Optional[Pipe]:
+        """The FIFO at a path of the world, or None where something else is there."""
+        return self.pipes.setdefault(path, Pipe()) if path in self.fifos else None
 
     def inside(self, real: bytes) -> Optional[bytes]:
         """The path in the world of an absolute path of the system, or None where that is outside."""

@@ -7,8 +7,10 @@ from strace.files import Handler
 from strace.following import Following, Process, needed, number
 from strace.log import Call, Ended
 from strace.script import Leave, Reason
+from strace.waiting import Waiting
 
 KEPT = 0xFFFFFFFF
+BEGINNING = frozenset(("fork", "vfork", "clone", "clone3"))
 ENDING = {"SIGTERM": "TERM", "SIGKILL": "KILL"}
 
 
@@ -78,9 +80,20 @@ def wait(following: Following, call: Call, process: Process) -> None:
         raise Leave(Reason.NO_ARGUMENT, "no child had ended yet")
     if not call.result.done and not re.match(rb"-1,|P_ALL", written):
         raise Leave(Reason.NO_ARGUMENT, "one child alone")
-    following.script.call(call)
-    if following.script.play(process.tag, "wait").outcome is Outcome.DONE:
-        process.ended_children = max(0, process.ended_children - 1)
+    child = following.processes.get(found) if call.result.done and found else None
+
+    def play() -> None:
+        following.script.call(call)
+        if following.script.play(process.tag, "wait").outcome is Outcome.DONE:
+            process.ended_children = max(0, process.ended_children - 1)
+
+    def step() -> bool:
+        if child is not None and child.living and (child.waits or child.queue):
+            return False
+        play()
+        return True
+
+    following.queues.wait(process, Waiting(step, play))
 
 
 def number_after(text: bytes, pattern: bytes) -> int:

@@ -63,9 +63,9 @@ class Script:
         self.lines.append(line.encode("ascii"))
         return self.session.call(line)
 
-    def call(self, call: Call) -> None:
-        """Begins the lines that are a call of the log."""
-        self.played += 1
+    def call(self, call: Call, again: bool = False) -> None:
+        """Begins the lines that are a call of the log, or goes on with them behind those of others."""
+        self.played += not again
         self.comment(f"{call.line}: {shown(call)}")
 
     def besides(self, line: int, text: str) -> None:

@@ -40,6 +40,10 @@ SHELL = ("cat src/a src/b | sort > dst/sorted; mkdir new && mv dst/sorted new/; 
 # calls that programs make at their start, and that are left out of the logs that are kept
 UNRECORDED = ("mmap", "mprotect", "munmap", "brk", "arch_prctl", "rseq", "set_robust_list", "set_tid_address", "rt_sigaction",
               "rt_sigprocmask", "futex", "getrandom", "prlimit64")
+PIPES = "cat src/big | cat > dst/copy; cat src/big src/big | wc -c > dst/n; cat src/big | head -c 10 > dst/head"
+TAR_PIPE = "tar --numeric-owner -cf - src | cat | cat > all.tar; cat all.tar all.tar | cat > twice"
+# programs whose logs are too long to be kept
+UNKEPT = ("tar_pipe",)
 # programs with the calls that their scripts have at least
 SCENARIOS = {
     "cp": (["cp", "-r", "src", "copy"], "open read write close fstat stat readdir mkdir exit"),
@@ -49,6 +53,8 @@ SCENARIOS = {
     "tar_x": (["tar", "--numeric-owner", "-xf", "kept.tar", "-C", "dst"], "open read write close mkdir exit"),
     "sh": (["sh", "-c", SHELL],
            "open read write close dup pipe fork wait exit mkdir rename unlink rmdir chmod chdir link mkfifo"),
+    "pipes": (["sh", "-c", PIPES], "open read write close dup pipe fork wait exit"),
+    "tar_pipe": (["sh", "-c", TAR_PIPE], "open read write close dup pipe fork wait exit"),
     "perl": (["perl", "-e", PERL], "open read write lseek dup pipe fork wait kill exit umask link rename chmod chown mkdir rmdir "
                                    "unlink chdir"),
 }
@@ -61,6 +67,8 @@ def make_tree(tree, name):
     (tree / "src/a").write_bytes(b"pear\napple\n")
     (tree / "src/b").write_bytes(bytes(range(256)) * 12)
     (tree / "src/set").write_bytes(b"run")
+    if name == "pipes":
+        (tree / "src/big").write_bytes(b"".join(b"%07d\n" % number for number in range(1500)))
     (tree / "src/sub/empty").write_bytes(b"")
     (tree / "src/sub/deep/a b").write_bytes(b"a quote \" and a backslash \\\n")
     (tree / "closed/f").write_bytes(b"closed")
@@ -197,6 +205,8 @@ def record_all():
     program = strace()
     LOGS.mkdir(exist_ok=True)
     for name, (words, _) in SCENARIOS.items():
+        if name in UNKEPT:
+            continue
         shutil.rmtree(KEPT, ignore_errors=True)
         KEPT.mkdir(parents=True)
         make_tree(KEPT, name)
