@@ -71,7 +71,7 @@ def run(command, folder):
     environment = {**PLAIN, "PATH": f"{folder}/bin:{PLAIN['PATH']}", "LABSYS": os.path.abspath(program()),
                    "PYTHONDONTWRITEBYTECODE": "1"}
     done = subprocess.run(["sh", "-c", command], stdin=subprocess.DEVNULL, stdout=subprocess.PIPE, stderr=subprocess.STDOUT,
-                          cwd=folder, env=environment, preexec_fn=as_user, check=False, timeout=120)
+                          cwd=folder, env=environment, preexec_fn=as_user, check=False, timeout=900)
     return done.stdout.decode()
 
 

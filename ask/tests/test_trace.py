@@ -106,7 +106,7 @@ def record(program, words, tree, log, *options):
         pass
     os.chmod(log, 0o666)
     subprocess.run(command, cwd=tree, env=PLAIN, stdin=subprocess.DEVNULL, stdout=subprocess.DEVNULL, stderr=subprocess.DEVNULL,
-                   preexec_fn=as_user, check=False, timeout=60)
+                   preexec_fn=as_user, check=False, timeout=900)
 
 
 def compared(world, log, folder):
