@@ -193,6 +193,7 @@ HANDLERS: Dict[str, Handler] = {
     "stat": stat, "lstat": stat, "newfstatat": stat, "statx": stat, "mkdir": mkdir, "mkdirat": mkdir, "mknod": mknod,
     "mknodat": mknod, "symlink": symlink, "symlinkat": symlink, "unlink": unlink, "rmdir": unlink, "unlinkat": unlink,
     "link": link, "linkat": link, "rename": rename, "renameat": rename, "renameat2": rename, "chmod": chmod, "fchmod": chmod,
-    "fchmodat": chmod, "fchmodat2": chmod, "chown": chown, "lchown": chown, "fchown": chown, "fchownat": chown, "chdir": chdir, "fchdir": chdir, "umask": umask,
+    "fchmodat": chmod, "fchmodat2": chmod, "chown": chown, "lchown": chown, "fchown": chown, "fchownat": chown,
+    "chdir": chdir, "fchdir": chdir, "umask": umask,
     "truncate": truncate, "ftruncate": truncate,
 }

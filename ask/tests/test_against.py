@@ -134,7 +134,8 @@ def check_verdicts(folder):
 def check_order(folder):
     """A call that waits counts where it returns, and any other where it begins."""
     lines = ['pipe2([6<pipe:[5]>, 7<pipe:[5]>], 0) = 0', 'fork( <unfinished ...>', '101 close(7<pipe:[5]>) = 0',
-             '101 read(6<pipe:[5]>,  <unfinished ...>', '<... fork resumed>) = 101', 'write(7<pipe:[5]>, "xy", 2 <unfinished ...>',
+             '101 read(6<pipe:[5]>,  <unfinished ...>', '<... fork resumed>) = 101',
+             'write(7<pipe:[5]>, "xy", 2 <unfinished ...>',
              '101 <... read resumed>"xy", 9) = 2', '<... write resumed>) = 2', 'close(6<pipe:[5]>) = 0',
              'wait4(-1,  <unfinished ...>', '101 exit_group(0) = ?', '101 +++ exited with 0 +++',
              '<... wait4 resumed>[{WIFEXITED(s) && WEXITSTATUS(s) == 0}], 0, NULL) = 101', 'exit_group(0) = ?']

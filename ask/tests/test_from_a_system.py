@@ -129,8 +129,9 @@ def names_lacking():
 
 
 def rows_wrong():
-    """The known differences by errors whose row in docs/DIFFERENCES.md has not the reply of this kernel and the error of Linux."""
-    rows = {row.partition("](")[0][3:]: row for row in DIFFERENCES.read_text(encoding="utf-8").splitlines() if row.startswith("| [")}
+    """The known differences by errors whose row in docs/DIFFERENCES.md lacks the reply of this kernel or the error of Linux."""
+    lines = DIFFERENCES.read_text(encoding="utf-8").splitlines()
+    rows = {row.partition("](")[0][3:]: row for row in lines if row.startswith("| [")}
     for (word, here, there), name in KNOWN.items():
         row = rows.get(name, f"`{word} {here} {there}")
         named = f"`{word}" in row and f"{here}" in row and (there == "ok" or there in row)

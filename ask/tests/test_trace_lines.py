@@ -208,7 +208,7 @@ def check_faults(folder):
 
 
 def broken(random, lines):
-    """The lines of a log, of which some are damaged: bytes are lost, doubled or turned, numbers are others, lines are exchanged."""
+    """The lines of a log, of which some are damaged: bytes are lost, added or turned, numbers or whole lines are others."""
     lines = [line.encode("latin-1") for line in lines]
     for _ in range(random.randrange(1, 40)):
         index = random.randrange(len(lines))
