@@ -20,6 +20,7 @@ from worlds import read_file, read_world
 
 HERE = pathlib.Path(__file__).resolve().parent
 MOST_VIEWS = 64
+TAG_WIDTHS = (6.0, 14.0)  # the least and the most width of the column of tags, in rem
 LANE_WIDTHS = ((8, 2.0), (16, 1.2), (MOST_LANES, 0.7))  # in rem, by how many lanes there are at most
 
 
@@ -63,9 +64,11 @@ def style_of(table: Table) -> str:
     """The style sheet, with the rules of the lanes."""
     count = len(table.lanes.names)
     width = next((width for most, width in LANE_WIDTHS if count <= most), LANE_WIDTHS[-1][1])
+    longest = max((len(call.reply.tag) for call in table.run.calls), default=0)
+    tags = min(max(TAG_WIDTHS[0], 0.53 * longest + 1.2), TAG_WIDTHS[1])
     rules = "\n".join(pattern_rules(table.patterns))
     sheet = (HERE / "page.css").read_text(encoding="utf-8")
-    return f"{sheet}:root{{--w:{width}rem;--lanes:{count}}}\n{rules}"
+    return f"{sheet}:root{{--w:{width}rem;--lanes:{count};--tags:{tags:.1f}rem}}\n{rules}"
 
 
 def calls_section(run: Run, table: Table, views: Sequence[View]) -> Iterator[str]:

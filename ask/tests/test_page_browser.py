@@ -240,10 +240,9 @@ def test_without_scripts(browser, folder):
     page, text = browser.page(), (EXAMPLES / "lesson.txt").read_bytes()
     page.scripts(False)
     page.open(make_page(EXAMPLES / "lesson.txt", folder))
-    shown = page.evaluate("document.body.innerText")
-    for line in replies_of(text):
-        require(all(word in shown for word in line.split(" ")), f"the page without scripts lacks {line}")
-    require("Scripts are off" in shown and "See as label" not in shown, "what is shown without scripts")
+    require(rows_of(page) == replies_of(text), "rows of the lesson")
+    require(page.evaluate("document.querySelector('.controls + noscript p').checkVisibility()"), "nothing says that scripts are off")
+    require(not page.evaluate("document.querySelector('.controls').checkVisibility()"), "controls that do nothing are shown")
     world = folder / "long.txt"
     world.write_bytes(labsys("gen", "1000")[1])
     page.open(make_page(world, folder))
