@@ -107,7 +107,7 @@ def main(words: Optional[Sequence[str]] = None) -> int:
         os.dup2(os.open(os.devnull, os.O_WRONLY), sys.stdout.fileno())
         return DONE
     except OSError as fault:
-        print(f"labask: {fault.filename}: {fault.strerror}", file=sys.stderr)
+        print(f"labask: {fault.filename or 'standard output'}: {fault.strerror}", file=sys.stderr)
         return USAGE
 
 
