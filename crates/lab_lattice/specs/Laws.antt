@@ -1,6 +1,6 @@
 -- The laws that implementations of traits cite, with their proofs: numbers, grades, sets of categories, pairs and
 -- lattices in reverse are lattices and are listed in total orders, and a set is stored as the bits of a number. Rattle takes what an implementation cites from `specs/` alone.
-use Rattle.std.specs.Prelude.{◌≡◌, ℕ, ◌+◌, ◌^◌, ◌<◌, ◌≤◌, Bool, true, false, ◌&&◌, ◌||◌, ◌==◌, nat_eq, nat_le, nat_lt, max, List, [], ◌∷◌, zero, suc, bit_or}
+use Rattle.std.specs.Prelude.{◌≡◌, ℕ, ◌+◌, ◌*◌, ◌/◌, ◌%◌, ◌^◌, ◌<◌, ◌≤◌, Bool, true, false, ◌&&◌, ◌||◌, ◌==◌, nat_eq, nat_le, nat_lt, max, List, [], ◌∷◌, zero, suc, bit_or}
 use Rattle.std.specs.FinSet as set
 use Rattle.std.specs.Bool.{Decides, one_answer}
 use Rattle.std.specs.Int.{bit_at}
@@ -180,6 +180,15 @@ has-short_word word i h = has-cats_of_word word i ∙ short word i h
 
 pub word_back : (word : ℕ) → word < 2 ^ 64 → word_of_cats (cats_of_word word) ≡ word
 word_back word h = same_words _ word (λ i. in-word_of_cats (cats_of_word word) i ∙ has-short_word word i h)
+
+joined : (low high : ℕ) → low < 2 ^ 32 → high < 2 ^ 32 → word_of_cats (cats_of_word (low + high * 2 ^ 32)) ≡ low + high * 2 ^ 32
+joined low high h k = word_back (low + high * 2 ^ 32) (omega arith)
+
+pub low_back : (low high : ℕ) → low < 2 ^ 32 → high < 2 ^ 32 → word_of_cats (cats_of_word (low + high * 2 ^ 32)) % 2 ^ 32 ≡ low
+low_back low high h k = rw (joined low high h k) (omega arith)
+
+pub high_back : (low high : ℕ) → low < 2 ^ 32 → high < 2 ^ 32 → word_of_cats (cats_of_word (low + high * 2 ^ 32)) / 2 ^ 32 ≡ high
+high_back low high h k = rw (joined low high h k) (omega arith)
 
 -- ---- the listing of sets
 

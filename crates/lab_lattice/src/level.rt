@@ -10,8 +10,8 @@ const MAX_LEVEL: u8 = 15;
 /// A level of secrecy, seen as its number: 0 is the lowest, 15 the highest that a value can have.
 #[derive(Clone, Copy, Debug, PartialEq, Eq, PartialOrd, Ord)]
 pub struct Level {
-    // As wide as the categories beside it, so that a label has no padding.
-    number: u64,
+    // As wide as each part of the categories beside it, so that a label has no padding.
+    number: u32,
 }
 
 impl Model for Level {
@@ -34,7 +34,7 @@ impl Level {
     {
         if n <= MAX_LEVEL {
             Some(Level {
-                number: u64::from(n),
+                number: u32::from(n),
             })
         } else {
             None
@@ -53,7 +53,7 @@ impl Level {
         ensures { result ≡ 15 }
     {
         Level {
-            number: u64::from(MAX_LEVEL),
+            number: u32::from(MAX_LEVEL),
         }
     }
 

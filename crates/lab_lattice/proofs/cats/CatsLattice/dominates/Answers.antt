@@ -4,4 +4,4 @@ use Rattle.lab_lattice.proofs.Words.{word_cover}
 use Rattle.lab_lattice.proofs.cats.CatsLattice.dominates.Goals as goal
 
 pub returns : goal.returns
-returns c = word_cover c.self.inside.word c.other.inside.word c.self.invariant c.other.invariant ∙ (λ i. cats_cover (c.self.view_is i) (c.other.view_is i))
+returns c = word_cover c.word.result c.word-below.result c.word.type_inv c.word-below.type_inv ∙ (λ i. cats_cover (c.word.ensures i) (c.word-below.ensures i))

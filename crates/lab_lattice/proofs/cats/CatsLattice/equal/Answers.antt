@@ -5,4 +5,4 @@ use Rattle.lab_lattice.proofs.cats.CatsLattice.equal.Goals as goal
 
 pub returns : goal.returns
 unfolding same_sets
-returns c = word_same c.self.inside.word c.other.inside.word c.self.invariant c.other.invariant ∙ (λ i. same_sets (c.self.view_is i) (c.other.view_is i))
+returns c = word_same c.word.result c.word-2.result c.word.type_inv c.word-2.type_inv ∙ (λ i. same_sets (c.word.ensures i) (c.word-2.ensures i))

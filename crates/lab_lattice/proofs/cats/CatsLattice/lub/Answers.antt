@@ -1,11 +1,7 @@
 use Rattle.std.proofs.Common.{◌∙◌}
-use Rattle.std.proofs.lemmas.Nat.{or_lt}
 use Rattle.lab_lattice.specs.Cats.{cats_join}
 use Rattle.lab_lattice.proofs.Words.{word_join}
 use Rattle.lab_lattice.proofs.cats.CatsLattice.lub.Goals as goal
 
-pub invariant_of-result : goal.invariant_of-result
-invariant_of-result c = or_lt 64 c.self.inside.word c.other.inside.word c.self.invariant c.other.invariant
-
 pub returns : goal.returns
-returns c = word_join c.self.inside.word c.other.inside.word c.self.invariant c.other.invariant ∙ (λ i. cats_join (c.self.view_is i) (c.other.view_is i))
+returns c = c.from_word.ensures ∙ word_join c.word.result c.word-2.result c.word.type_inv c.word-2.type_inv ∙ (λ i. cats_join (c.word.ensures i) (c.word-2.ensures i))

@@ -4,4 +4,4 @@ use Rattle.lab_lattice.proofs.Words.{word_same}
 use Rattle.lab_lattice.proofs.cats.CatsPartialEq.eq.Goals as goal
 
 pub returns : goal.returns
-returns c = word_same c.self.inside.word c.other.inside.word c.self.invariant c.other.invariant ∙ (λ i. same_sets (c.self.view_is i) (c.other.view_is i))
+returns c = word_same c.word.result c.word-2.result c.word.type_inv c.word-2.type_inv ∙ (λ i. same_sets (c.word.ensures i) (c.word-2.ensures i))
