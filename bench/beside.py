@@ -1,87 +1,173 @@
 #!/usr/bin/env python3
-"""Times two programs on the loads of a folder, in turn, so that other work on the machine hits both.
+"""Measures two programs on the loads of folders, in turn, so that other work on the machine hits both.
 
-    bench/beside.py --inputs FOLDER [--old-inputs FOLDER] --plain PROGRAM [--cmd PROGRAM] [--runs N] [--view LABEL | --check]
+    bench/beside.py --inputs FOLDER [--old-inputs FOLDER] --plain PROGRAM [--cmd PROGRAM] [--runs N] [--scale] [COMMAND..]
 
-Each file FOLDER/NAME.in is played by both, N times each; with --old-inputs the plain program reads the loads of that folder, of
-the old format of worlds. A row has the best seconds of both and their ratio, the ratio of the
-middle ones of user time, the MiB of both, and the ratio of the writes alone, which are those of pieces.c, to the plain program.
-With --view or --check that command is timed, without the last column. It fails where the two write different bytes. It needs a C
-compiler.
+A COMMAND is `play`, `view` or `check`; without one it is each of them. `view` is from the highest label of the load's world. Each
+file FOLDER/NAME.in is a load; with --old-inputs the plain program reads the load of this name in that folder, of the old format of
+worlds. A row has of both programs the best seconds of N runs, the seconds of user time of the middle run, the millions of
+instructions of one run under valgrind, and the MiB, each with the ratio of labsys to the plain program; of `play` it has the
+ratio of the writes alone too, which are those of pieces.c. It fails where the two write different bytes. With --scale it
+prints another table: for the first eighth, quarter and half of a load and for the whole, the power of its bytes by which
+seconds and instructions grow. It needs a C compiler and valgrind.
 """
 import argparse
+import math
+import os
 import pathlib
+import re
 import statistics
+import subprocess
 import sys
 import tempfile
 
 from started import compiled, taken
 
 BUILT = pathlib.Path(__file__).resolve().parent.parent / "crates" / "labsys" / "out" / "labsys"
+WORDS = {"play": lambda load: ["play", "TRAIL"], "view": lambda load: ["view", highest_label(load)], "check": lambda load: ["check"]}
+
+
+def highest_label(load):
+    """The text of the highest label of a load's world: its last level with all categories, and its lowest grade."""
+    lists = {}
+    with open(load, encoding="utf-8") as lines:
+        for line in lines:
+            word, *names = line.split()
+            if word == "bound":
+                break
+            lists[word] = names
+    cats = ":" + ",".join(lists["categories"]) if lists["categories"] else ""
+    grade = "/" + lists["grades"][0] if "grades" in lists else ""
+    return lists["levels"][-1] + cats + grade
+
+
+def part_of(load, part, folder):
+    """A file with the first lines of a load, up to a part of its bytes, with the line `script`."""
+    text = load.read_bytes()
+    first = text[: text.rindex(b"\n", 0, int(len(text) * part)) + 1]
+    path = pathlib.Path(folder) / "part.in"
+    path.write_bytes(first if b"\nscript\n" in first else first + b"script\n")
+    return path
+
+
+def power(sizes, values):
+    """The slope of the line that fits the logarithms best."""
+    xs, ys = [math.log(size) for size in sizes], [math.log(value) for value in values]
+    x, y = statistics.mean(xs), statistics.mean(ys)
+    return sum((a - x) * (b - y) for a, b in zip(xs, ys)) / sum((a - x) ** 2 for a in xs)
+
+
+def ratio(one, other):
+    """The text of a ratio, where what is divided by is not too small to tell."""
+    return f"{one / other:.1f}" if other else "-"
 
 
 class Bench:
     """A folder for what the runs write, and the compiled programs of measuring."""
 
-    def __init__(self, folder, old_inputs):
+    def __init__(self, folder, old_inputs, runs):
         self.folder = pathlib.Path(folder)
         self.old_inputs = old_inputs
+        self.runs = runs
         self.starter = compiled("start", folder)
         self.pieces = compiled("pieces", folder)
 
+    def words(self, name, words):
+        """The words, with a file of this program for the trail."""
+        return [str(self.folder / f"{name}.trail") if word == "TRAIL" else word for word in words]
+
     def run(self, name, program, words, load):
         """What a run took; its output and its trail stay in files of this name."""
-        words = [self.folder / f"{name}.trail" if word == "TRAIL" else word for word in words]
-        took = taken(self.starter, [program, *words], load, self.folder / f"{name}.out", self.folder)
+        took = taken(self.starter, [program, *self.words(name, words)], load, self.folder / f"{name}.out", self.folder)
         if took.status != 0:
             sys.exit(f"{program} ends with status {took.status} on {load}")
         return took
+
+    def instructions(self, name, program, words, load):
+        """How many instructions a run takes."""
+        counting = ["valgrind", "--tool=cachegrind", "--cache-sim=no", f"--cachegrind-out-file={os.devnull}", program, *self.words(name, words)]
+        with open(load, "rb") as text:
+            run = subprocess.run(counting, stdin=text, stdout=subprocess.DEVNULL, stderr=subprocess.PIPE, text=True, check=True)
+        return int(re.search(r"refs:\s+([\d,]+)", run.stderr).group(1).replace(",", ""))
 
     def written(self, name):
         """The bytes that the last run of this name wrote."""
         files = [self.folder / f"{name}.{end}" for end in ("out", "trail")]
         return [file.read_bytes() for file in files if file.exists()]
 
-    def row(self, load, programs, words, runs):
+    def load_of(self, name, load):
+        """The load as a program reads it."""
+        return self.old_inputs / load.name if name == "plain" and self.old_inputs else load
+
+    def row(self, load, programs, command):
         """The row of a load."""
+        words = WORDS[command](load)
         took = {name: [] for name in [*programs, "pieces"]}
-        for _ in range(runs):
+        for _ in range(self.runs):
             for name, program in programs.items():
-                old = name == "plain" and self.old_inputs
-                took[name].append(self.run(name, program, words, old / load.name if old else load))
-            if "TRAIL" in words:
-                files = [self.folder / f"plain.{end}" for end in ("out", "trail")]
+                took[name].append(self.run(name, program, words, self.load_of(name, load)))
+            if command == "play":
+                files = [str(self.folder / f"plain.{end}") for end in ("out", "trail")]
                 took["pieces"].append(self.run("pieces", self.pieces, [*files, "TRAIL"], load))
         if self.written("plain") != self.written("labsys"):
             sys.exit(f"the programs write different bytes on {load}")
         best = {name: min(run.seconds for run in found) for name, found in took.items() if found}
         user = {name: statistics.median(run.user for run in took[name]) for name in programs}
-        mib = ", ".join(f"{max(run.mib for run in took[name]):.1f}" for name in ("labsys", "plain"))
-        cells = [load.stem, f"{best['labsys']:.2f} s", f"{best['plain']:.2f} s", f"{best['labsys'] / best['plain']:.1f}"]
-        cells += [f"{user['labsys'] / user['plain']:.1f}" if user["plain"] else "too short to tell", mib]
-        cells += [f"{best['pieces'] / best['plain']:.1f}"] if "pieces" in best else []
-        return f"| {' | '.join(cells)} |"
+        counts = {name: self.instructions(name, program, words, self.load_of(name, load)) for name, program in programs.items()}
+        mib = {name: max(run.mib for run in took[name]) for name in programs}
+        cells = [load.stem]
+        for values, form in ((best, "{:.2f}"), (user, "{:.2f}"), ({name: count / 1e6 for name, count in counts.items()}, "{:,.0f}"), (mib, "{:.1f}")):
+            cells += [f"{form.format(values['labsys'])}, {form.format(values['plain'])}", ratio(values["labsys"], values["plain"])]
+        return cells + ([ratio(best["pieces"], best["plain"])] if command == "play" else [])
+
+    def scaled(self, load, program, command):
+        """The row of how a load grows."""
+        words = WORDS[command](load)
+        sizes, seconds, counts = [], [], []
+        for part in (1 / 8, 1 / 4, 1 / 2, 1):
+            path = part_of(load, part, self.folder)
+            sizes.append(path.stat().st_size)
+            seconds.append(min(self.run("labsys", program, words, path).seconds for _ in range(self.runs)))
+            counts.append(self.instructions("labsys", program, words, path))
+        return [load.stem, ", ".join(f"{second:.2f}" for second in seconds), f"{power(sizes, seconds):.2f}", f"{power(sizes, counts):.2f}"]
+
+
+def show(cells):
+    """Prints a row."""
+    print(f"| {' | '.join(cells)} |", flush=True)
+
+
+def head(cells):
+    """Prints the head of a table."""
+    show(cells)
+    print("|" + "---|" * len(cells), flush=True)
 
 
 def main():
     arguments = argparse.ArgumentParser(description=__doc__, formatter_class=argparse.RawDescriptionHelpFormatter)
-    arguments.add_argument("--inputs", required=True, type=pathlib.Path, metavar="FOLDER", help="a folder with loads NAME.in")
-    arguments.add_argument("--old-inputs", type=pathlib.Path, metavar="FOLDER", help="the same loads in the old format, for the plain program")
+    arguments.add_argument("--inputs", required=True, action="append", type=pathlib.Path, metavar="FOLDER", help="a folder with loads NAME.in; may be given again")
+    arguments.add_argument("--old-inputs", type=pathlib.Path, metavar="FOLDER", help="the loads in the old format, for the plain program")
     arguments.add_argument("--plain", required=True, type=pathlib.Path, metavar="PROGRAM", help="the program to compare with")
     arguments.add_argument("--cmd", default=BUILT, type=pathlib.Path, metavar="PROGRAM", help="labsys; without it, that of the checkout")
-    arguments.add_argument("--runs", default=9, type=int, metavar="N")
-    other = arguments.add_mutually_exclusive_group()
-    other.add_argument("--view", metavar="LABEL")
-    other.add_argument("--check", action="store_true")
+    arguments.add_argument("--runs", default=5, type=int, metavar="N")
+    arguments.add_argument("--scale", action="store_true", help="print how seconds and instructions grow")
+    arguments.add_argument("commands", nargs="*", choices=[[], *WORDS], metavar="COMMAND", help="play, view or check")
     given = arguments.parse_args()
-    words = ["view", given.view] if given.view else ["check"] if given.check else ["play", "TRAIL"]
     programs = {"labsys": given.cmd.resolve(), "plain": given.plain.resolve()}
-    heads = ["Load", "`labsys`", "plain", "Ratio", "Ratio of user time", "MiB of both", *(["The writes alone"] if "TRAIL" in words else [])]
-    print(f"| {' | '.join(heads)} |\n|{'---|' * len(heads)}")
+    loads = [load for folder in given.inputs for load in sorted(folder.resolve().glob("*.in"))]
     with tempfile.TemporaryDirectory() as folder:
-        bench = Bench(folder, given.old_inputs and given.old_inputs.resolve())
-        for load in sorted(given.inputs.resolve().glob("*.in")):
-            print(bench.row(load, programs, words, given.runs), flush=True)
+        bench = Bench(folder, given.old_inputs and given.old_inputs.resolve(), given.runs)
+        for command in given.commands or WORDS:
+            print(f"\n`{command}`:\n")
+            if given.scale:
+                head(["Load", "Seconds of an eighth, a quarter, a half, the whole", "Power of seconds", "Power of instructions"])
+                for load in loads:
+                    show(bench.scaled(load, programs["labsys"], command))
+            else:
+                pairs = [cell for of in ("Seconds", "User time", "Million instructions", "MiB") for cell in (f"{of} of `labsys`, plain", "Ratio")]
+                head(["Load", *pairs, *(["The writes alone"] if command == "play" else [])])
+                for load in loads:
+                    show(bench.row(load, programs, command))
 
 
 if __name__ == "__main__":
