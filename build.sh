@@ -1,6 +1,6 @@
 # shellcheck shell=sh disable=SC2154 # variables and functions of the script labsys, which reads this file where it has to build
 # Builds the program, in the checkout or, where the user may not write there, in the user's cache folder.
-kit=rattle-kit-13b
+kit=rattle-kit-13f
 build=
 room=
 
