@@ -1,9 +1,16 @@
 -- The first state, object by object and process by process.
-use Rattle.std.specs.Prelude.{◌≡◌, ℕ, ◌+◌, ◌≤◌, ◌<◌, Bool, true, false, ◌&&◌, cond, List, [], ◌∷◌, ◌++◌, length, count_by, Option, Some, None, Result, Ok, Err, OnOk, OnErr, refl, unwrap_or}
+use Rattle.std.specs.Prelude.{◌≡◌, ◌==◌, ℕ, ◌+◌, ◌≤◌, ◌<◌, Bool, true, false, not, ◌&&◌, cond, List, [], ◌∷◌, ◌++◌, length, count_by, Option, Some, None, Result, Ok, Err, OnOk, OnErr, refl, unwrap_or}
 use Rattle.std.specs.FinMap as map
 use Rattle.std.specs.FinMap.{FinMap}
+use Rattle.std.specs.Cmp.{unsigned_Decides}
+use Rattle.std.specs.Cmp.Lexicographic.{pointwise, pointwise_decides}
+use Rattle.std.specs.Ordering.{eq_by_cmp, is_eq}
+use Rattle.std.specs.declared.cmp.Ordering.{Ordering}
+use Rattle.std.specs.declared.cmp.Ordering.TheVariants.{Less, Equal, Greater}
+use Rattle.std.proofs.lemmas.Bool.{and_parts}
+use Rattle.std.proofs.lemmas.List.{take_all, take_more}
 use Rattle.std.proofs.lemmas.List.Sums.{sum_by-cons}
-use Rattle.std.proofs.Common.{ap, sym, ◌∙◌, subst, arith, get_or, drop, drop-cons, add-one, suc, append_assoc}
+use Rattle.std.proofs.Common.{ap, sym, ◌∙◌, subst, arith, get_or, drop, take, ◌-◌, drop-cons, add-one, suc, append_assoc}
 use Rattle.fs_path.specs.Name.{Name}
 use Rattle.lab_lattice.specs.Label.{Label, label_cmp}
 use Rattle.lab_lattice.proofs.Labels.{label_cmp_total, label_cmp_exact, dominates_itself}
@@ -17,20 +24,22 @@ use Rattle.kern_model.specs.declared.world.World.{World}
 use Rattle.kern_model.specs.declared.world.WorldObject.{WorldObject}
 use Rattle.kern_model.specs.declared.world.WorldProc.{WorldProc}
 use Rattle.kern_model.specs.Maps.{get_or as or_default}
-use Rattle.kern_model.specs.Keys.{Spot}
-use Rattle.kern_model.specs.State.{State, Process, Change, SetObject, SetProcess, DrawObject, DrawProcess, apply_changes, last_drawn, next_object, next_process, look, root}
+use Rattle.kern_model.specs.Keys.{Spot, spot_cmp}
+use Rattle.kern_model.specs.State.{State, Process, Change, SetEntry, SetObject, SetProcess, DrawObject, DrawProcess, apply_changes, last_drawn, next_object, next_process, look, root}
 use Rattle.kern_model.specs.Boot.{object_of, process_of, entry_for, boot_object, boot_objects, boot_process, boot_processes, boot_recs_from}
 use Rattle.kern_model.specs.Rules.{same_label}
 use Rattle.kern_model.specs.World.{IsWorld, IsWorldProc, procs_at}
 use Rattle.cap_bits.specs.CapSet.{is_within}
 use Rattle.std.specs.List.{AllByRecursion}
+use Rattle.kern_model.proofs.KeyLaws.{spot_cmp_exact, spot_cmp_total}
 use Rattle.kern_model.proofs.TableLemmas.{each_set_at}
 use Rattle.fd_table.specs.Fds.{AllFds}
 use Rattle.proc_table.specs.Procs.{ProcTable, next_in, with_new}
 use Rattle.proc_table.specs.declared.procs.ProcError.{ProcError}
 use Rattle.sys_lookup.specs.Owners.{HasOwners}
 use Rattle.sys_lookup.proofs.OwnerLemmas.{owners_process}
-use Rattle.kern_core.specs.Starts.{CanStart, IsSpotOf, RoomForObjects, entry_at}
+use Rattle.kern_core.specs.declared.loading.NamedDirectory.{NamedDirectory}
+use Rattle.kern_core.specs.Starts.{CanStart, IsSpotOf, LeadsTo, RoomForObjects, directory_from, entry_at, has_no}
 
 -- ---- one object
 abbrev pub object_id : WorldObject → ℕ → Oid
@@ -44,6 +53,47 @@ unfolding boot_object
 object_booted s o n is made made_is dir dir_is names names_is spot spot_is =
     ap (made_object s o n made) (sym (spot_is (object_id o n)))
     ∙ (λ i. made_object s o (is i) (made_is i) (entry_for s (dir_is i) (names_is i) (object_id o (is i))))
+
+-- ---- the directory of one object
+
+-- the entry for an object stands in the directory to which the names before its last lead
+entry_at_end : (s : State) (dir : Oid) (names : List Name) (name : Name) (id : Oid) → entry_for s dir (names ++ name ∷ []) id ≡ SetEntry (directory_from s.entries dir names, name) id ∷ []
+entry_at_end s dir [] name id = refl
+entry_at_end s dir (first ∷ []) name id = refl
+entry_at_end s dir (first ∷ next ∷ names) name id = entry_at_end s (unwrap_or (look s dir first) dir) (next ∷ names) name id
+
+pub spot_at_end : (s : State) (names parents : List Name) (name : Name) (dir : Oid) → 0 < length names → parents ≡ take (length names - 1) names → name ≡ get_or names (length names - 1) name
+    → directory_from s.entries root parents ≡ dir → IsSpotOf s root names (Some (dir, name))
+spot_at_end s names parents name dir some before last leads id =
+    let whole : names ≡ parents ++ name ∷ [] =
+    sym (take_all (length names) names (omega arith)) ∙ ap (λ n. take n names) (let e : length names ≡ length names - 1 + 1 = omega arith in e)
+    ∙ take_more names (length names - 1) name (omega arith) ∙ (λ i. sym before i ++ sym last i ∷ []) in
+    ap (λ ns. entry_for s root ns id) whole ∙ entry_at_end s root parents name id ∙ ap (λ d. SetEntry (d, name) id ∷ []) leads
+
+-- two spots of different names are not one
+names_apart : (dir : Oid) (name : Name) (spot : Spot) → not (pointwise ◌==◌ name spot.1) ≡ true → eq_by_cmp spot_cmp (dir, name) spot ≡ false
+names_apart dir name spot apart = by_order (spot_cmp (dir, name) spot) refl
+  where
+    by_order : (o : Ordering) → spot_cmp (dir, name) spot ≡ o → eq_by_cmp spot_cmp (dir, name) spot ≡ false
+    by_order Less e = ap is_eq e
+    by_order Greater e = ap is_eq e
+    by_order Equal e =
+        let one = spot_cmp_exact (dir, name) spot e in
+        let same : pointwise ◌==◌ name spot.1 ≡ true = (pointwise_decides unsigned_Decides name spot.1).1 (ap (λ (s : Spot). s.1) one) in
+        let fails : not true ≡ true = ap not (sym same) ∙ apart in
+        absurd (cc)
+
+-- names lead to the same directory after an entry of another name is set
+directory_kept : (entries : FinMap spot_cmp Oid) (spot : Spot) (id dir : Oid) (names : List Name) → has_no spot.1 names ≡ true → directory_from (map.insert entries spot id) dir names ≡ directory_from entries dir names
+directory_kept entries spot id dir [] apart = refl
+directory_kept entries spot id dir (name ∷ names) apart =
+    let parts = and_parts (not (pointwise ◌==◌ name spot.1)) (has_no spot.1 names) apart in
+    let found : map.get (map.insert entries spot id) (dir, name) ≡ map.get entries (dir, name) =
+    map.get-insert spot_cmp_total entries spot id (dir, name) ∙ ap (λ b. cond b (Some id) (map.get entries (dir, name))) (names_apart dir name spot parts.0) in
+    ap (λ (o : Option Oid). directory_from (map.insert entries spot id) (unwrap_or o dir) names) found ∙ directory_kept entries spot id (unwrap_or (map.get entries (dir, name)) dir) names parts.1
+
+pub leads_still : (entries more : FinMap spot_cmp Oid) (spot : Spot) (id : Oid) (d : NamedDirectory) → more ≡ map.insert entries spot id → has_no spot.1 d.names ≡ true → LeadsTo entries d → LeadsTo more d
+leads_still entries more spot id d set apart leads = ap (λ (m : FinMap spot_cmp Oid). directory_from m root d.names) set ∙ directory_kept entries spot id root d.names apart ∙ leads
 
 -- ---- one process
 abbrev pub with_made : State → Process → State

@@ -22,7 +22,7 @@ pub fn load_objects(alloc: Global, world: &World) -> Result<Shared, NoMemory>
     ensures { IfOk result (λ shared. shared ≡ objects_loaded world.now) }
 {
     let mut loading = Loading::new(alloc, world.bound, world.top)?;
-    loading.boot_objects(world.objects.items())?;
+    loading.boot_objects(alloc, world.objects.items())?;
     loading.load(alloc)
 }
 
@@ -39,7 +39,7 @@ pub fn load_objects_from(alloc: Global, world: World) -> Result<(Shared, ProcLis
         procs,
     } = world;
     let mut loading = Loading::new(alloc, bound, top)?;
-    loading.take_objects(objects)?;
+    loading.take_objects(alloc, objects)?;
     let shared = loading.load(alloc)?;
     Ok((shared, procs))
 }

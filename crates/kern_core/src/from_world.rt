@@ -1,10 +1,10 @@
 // The bodies of objects and the credentials of processes that a world describes.
-ghost use Rattle.std.specs.Prelude.{◌≡◌, IfOk, true};
+ghost use Rattle.std.specs.Prelude.{◌≡◌, IfOk, OnOk, true};
 ghost use Rattle.cap_bits.specs.CapSet.{is_within};
 ghost use Rattle.kern_model.specs.Boot.{process_of};
 ghost use Rattle.proc_table.specs.Procs.{creds_of};
 
-use kern_model::{Body, Mode, NoMemory, WorldProc};
+use kern_model::{Body, Mode, Name, NameList, NoMemory, WorldProc};
 use proc_creds::{Creds, copy_ids};
 
 // The umask of the processes that start with a world.
@@ -20,6 +20,17 @@ pub fn copy_body(body: &Body) -> Result<Body, NoMemory>
         Body::Fifo => Ok(Body::Fifo),
         Body::Pipe => Ok(Body::Pipe),
     }
+}
+
+/// Makes a list the copy of these names.
+pub fn copy_names(copy: &mut NameList, names: &[Name]) -> Result<(), NoMemory>
+    ensures { OnOk result (copy.new ≡ names.now) }
+{
+    copy.clear();
+    for name in names {
+        copy.push(name.copy()?)?;
+    }
+    Ok(())
 }
 
 /// The credentials of a process that a world describes.

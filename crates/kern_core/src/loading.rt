@@ -1,21 +1,71 @@
 // The objects of a world, before their entries stand in directories.
-ghost use Rattle.std.specs.Prelude.{◌≡◌, ◌<◌, IfOk, OnOk};
+ghost use Rattle.std.specs.Prelude.{◌≡◌, ◌==◌, ◌<◌, IfOk, OnOk, not, true};
+ghost use Rattle.std.specs.Cmp.Lexicographic.{pointwise};
+ghost use Rattle.std.specs.FinMap.{FinMap};
+ghost use Rattle.std.specs.List.{list_all};
 ghost use Rattle.kern_model.specs.declared.limits.TheConstants.{MAX_OBJECTS};
-ghost use Rattle.kern_model.specs.State.{last_drawn};
+ghost use Rattle.kern_model.specs.declared.numbers.Oid.{Oid as Number};
+ghost use Rattle.kern_model.specs.Keys.{spot_cmp};
+ghost use Rattle.kern_model.specs.State.{last_drawn, root};
 ghost use Rattle.kern_model.specs.Boot.{boot_object, boot_objects, nothing};
 ghost use Rattle.fs_dirs.specs.Tree.{AreEntries};
-ghost use Rattle.kern_core.specs.Starts.{IsSpotOf, RoomForObjects, state_loaded, world_object};
+ghost use Rattle.kern_core.specs.Starts.{IsSpotOf, LeadsTo, RoomForObjects, directory_from, has_no, state_loaded, world_object};
 
-use crate::from_world::copy_body;
+use crate::from_world::{copy_body, copy_names};
 use cap_bits::CapSet;
 use fd_table::FdTable;
 use fs_dirs::{Spot, Spots, Tree, root_directory};
 use fs_nodes::{NodeError, Nodes};
-use kern_model::{Attr, Body, Name, NoMemory, ObjectList, Oid, Path, WorldObject};
+use kern_model::{Attr, Body, Name, NameList, NoMemory, ObjectList, Oid, Path, WorldObject};
 use lab_lattice::Label;
 use proc_table::Procs;
 use std::alloc::Global;
 use sys_lookup::Shared;
+
+/// A directory, and the names that lead to it from the root.
+#[derive(Drop)]
+pub struct NamedDirectory {
+    names: NameList,
+    dir: Oid,
+}
+
+impl NamedDirectory {
+    fn root(alloc: Global) -> NamedDirectory
+        ensures { (entries : FinMap spot_cmp Number) → LeadsTo entries result }
+    {
+        NamedDirectory {
+            names: NameList::new(alloc),
+            dir: root_directory(),
+        }
+    }
+
+    // Goes to the root where one of the names is this, so that no other entry of this name is on the way.
+    fn leave(&mut self, name: &Name)
+        ensures apart { has_no name.now self.new.names ≡ true }
+        ensures leads { (entries : FinMap spot_cmp Number) → LeadsTo entries self.old → LeadsTo entries self.new }
+    {
+        if !has_no(name, self.names.items()) {
+            self.names.clear();
+            self.dir = root_directory();
+        }
+    }
+}
+
+// Whether none of these names is this.
+fn has_no(name: &Name, names: &[Name]) -> bool
+    ensures { result ≡ has_no name.now names.now }
+{
+    names.iter().all(|other| other != name)
+}
+
+// Gives back the memory of objects that are gone, once it is an eighth of the list.
+fn give_back(left: &mut Vec<WorldObject>)
+    ensures { left.new.items ≡ left.old.items }
+{
+    if left.len() <= left.capacity() / 8 * 7 {
+        left.shrink_to_fit();
+    }
+}
 
 /// A state that is being loaded: objects, entries that stand in no directory yet, the bound of capabilities over exec, and the
 /// highest label.
@@ -41,30 +91,35 @@ impl Loading {
     }
 
     /// Makes the objects of a world, in order.
-    pub fn boot_objects(&mut self, objects: &[WorldObject]) -> Result<(), NoMemory>
+    pub fn boot_objects(&mut self, alloc: Global, objects: &[WorldObject]) -> Result<(), NoMemory>
         requires { RoomForObjects self.old.nodes.table.numbers objects.now }
         ensures { OnOk result (state_loaded self.new ≡ boot_objects (state_loaded self.old) objects.now) }
     {
+        let mut last = NamedDirectory::root(alloc);
         for object in objects {
             let body = copy_body(&object.body)?;
-            self.boot_object(&object.path, object.label, object.attr, body)?;
+            self.boot_object(&mut last, &object.path, object.label, object.attr, body)?;
         }
         Ok(())
     }
 
     /// Makes the objects of a world, in order, and frees what it does not keep of each as soon as that object is made.
-    pub fn take_objects(&mut self, objects: ObjectList) -> Result<(), NoMemory>
+    pub fn take_objects(&mut self, alloc: Global, objects: ObjectList) -> Result<(), NoMemory>
         requires { RoomForObjects self.old.nodes.table.numbers objects }
         ensures { OnOk result (state_loaded self.new ≡ boot_objects (state_loaded self.old) objects) }
     {
-        for object in objects.into_vec() {
+        let mut last = NamedDirectory::root(alloc);
+        let mut left = objects.into_vec();
+        left.reverse();
+        while let Some(object) = left.pop() {
             let WorldObject {
                 path,
                 label,
                 attr,
                 body,
             } = object;
-            self.boot_object(&path, label, attr, body)?;
+            self.boot_object(&mut last, &path, label, attr, body)?;
+            give_back(&mut left);
         }
         Ok(())
     }
@@ -89,41 +144,68 @@ impl Loading {
         })
     }
 
-    // Makes an object under the next number of its label, and its entry.
+    // Makes an object under the next number of its label, and its entry. The directory of the object before it is tried first.
     fn boot_object(
         &mut self,
+        last: &mut NamedDirectory,
         path: &Path,
         label: Label,
         attr: Attr,
         body: Body,
     ) -> Result<(), NoMemory>
-        requires { last_drawn self.old.nodes.table.numbers label < MAX_OBJECTS }
-        ensures { OnOk result (state_loaded self.new ≡ boot_object (state_loaded self.old) (world_object path.now label attr body)) }
+        requires room { last_drawn self.old.nodes.table.numbers label < MAX_OBJECTS }
+        requires last { LeadsTo self.old.spots last.old }
+        ensures state { OnOk result (state_loaded self.new ≡ boot_object (state_loaded self.old) (world_object path.now label attr body)) }
+        ensures last { OnOk result (LeadsTo self.new.spots last.new) }
     {
-        let spot = self.spot_of(root_directory(), path.components())?;
+        let spot = self.spot_of(last, path.components())?;
         let id = match self.nodes.create(label, attr, body) {
             Ok(id) => id,
             Err(NodeError::Full) => unreachable!(),
             Err(NodeError::NoMemory(e)) => return Err(e),
         };
         if let Some(spot) = spot {
+            last.leave(&spot.1);
             self.spots.set(spot, id)?;
         }
         Ok(())
     }
 
-    // The spot that a path from this directory names for a new object. The path of the root names none.
-    fn spot_of(&self, dir: Oid, names: &[Name]) -> Result<Option<Spot>, NoMemory>
-        ensures { IfOk result (λ spot. IsSpotOf (state_loaded self.now) dir names.now spot) }
+    // The spot that a path names for a new object. The path of the root names none.
+    fn spot_of(&self, last: &mut NamedDirectory, names: &[Name]) -> Result<Option<Spot>, NoMemory>
+        requires { LeadsTo self.now.spots last.old }
+        ensures spot { IfOk result (λ spot. IsSpotOf (state_loaded self.now) root names.now spot) }
+        ensures last { OnOk result (LeadsTo self.now.spots last.new) }
     {
-        match names {
-            [] => Ok(None),
-            [name] => Ok(Some((dir, name.copy()?))),
-            [name, rest @ ..] => {
-                let spot = (dir, name.copy()?);
-                let next = self.spots.get(&spot).unwrap_or(dir);
-                self.spot_of(next, rest)
-            }
+        if names.is_empty() {
+            return Ok(None);
         }
+        self.go_to(last, &names[..names.len() - 1])?;
+        Ok(Some((last.dir, names[names.len() - 1].copy()?)))
+    }
+
+    // Goes to the directory to which names lead from the root.
+    fn go_to(&self, last: &mut NamedDirectory, names: &[Name]) -> Result<(), NoMemory>
+        requires { LeadsTo self.now.spots last.old }
+        ensures there { OnOk result (last.new.names ≡ names.now) }
+        ensures leads { OnOk result (LeadsTo self.now.spots last.new) }
+    {
+        if last.names.items() != names {
+            last.dir = self.directory_at(names)?;
+            copy_names(&mut last.names, names)?;
+        }
+        Ok(())
+    }
+
+    // The directory to which names lead from the root.
+    fn directory_at(&self, names: &[Name]) -> Result<Oid, NoMemory>
+        ensures { IfOk result (λ dir. dir ≡ directory_from self.now.spots root names.now) }
+    {
+        let mut dir = root_directory();
+        for name in names {
+            let spot = (dir, name.copy()?);
+            dir = self.spots.get(&spot).unwrap_or(dir);
+        }
+        Ok(dir)
     }
 }

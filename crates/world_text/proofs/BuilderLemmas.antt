@@ -1,32 +1,27 @@
--- The entries at paths and the counts at labels, after one more object or process.
-use Rattle.std.proofs.Common.{◌≡◌, ℕ, ◌+◌, ◌-◌, ◌<◌, Bool, true, false, cond, List, [], ◌∷◌, ◌++◌, length, take, drop, suc, refl, sym, ◌∙◌, ap, arith, Option, Some, None}
-use Rattle.std.specs.Prelude.{unwrap_or, count_by}
-use Rattle.std.specs.Option.{option_map, option_or}
+-- Objects by their paths and the counts at labels, after one more object or process.
+use Rattle.std.proofs.Common.{◌≡◌, ℕ, ◌+◌, ◌-◌, ◌<◌, ◌≤◌, ◌⊎◌, inl, inr, Bool, true, false, cond, List, [], ◌∷◌, ◌++◌, length, map, get_or, take, zero, suc, refl, sym, ◌∙◌, ap, subst, arith, Option, Some, None}
+use Rattle.std.specs.Prelude.{unwrap_or, count_by, slice_get}
+use Rattle.std.specs.Option.{option_map}
 use Rattle.std.specs.Ordering.{is_eq}
 use Rattle.std.specs.BTreeMap.{BTreeMap, get, is_at}
 use Rattle.std.specs.declared.cmp.Ordering.{Ordering}
 use Rattle.std.specs.declared.cmp.Ordering.TheVariants.{Less, Equal, Greater}
-use Rattle.std.specs.Cmp.{tied_itself, both_ways, unsigned_Decides}
-use Rattle.std.specs.Cmp.Lexicographic.{pointwise_decides, texts_ties}
-use Rattle.std.specs.List.{list_all}
-use Rattle.std.proofs.lemmas.Bool.{and_from, and_parts}
-use Rattle.std.proofs.lemmas.List.{take-append-drop}
-use Rattle.std.proofs.lemmas.List.Folds.{list_all-append}
+use Rattle.std.specs.Cmp.{tied_itself}
+use Rattle.std.proofs.lemmas.Bool.{and_from, and_parts, cases_eq}
+use Rattle.std.proofs.lemmas.List.{map-append, take-append-le}
+use Rattle.std.proofs.lemmas.Option.{slice_get_read}
+use Rattle.std.proofs.Math.Seq.{take-append_seam}
 use Rattle.std.proofs.lemmas.List.Sums.{sum_by-append}
-use Rattle.fs_path.specs.Name.{Name, is_name}
-use Rattle.fs_path.specs.Path.{PathValue}
-use Rattle.fs_path.specs.PathText.{parse_path}
+use Rattle.fs_path.specs.Name.{Name}
 use Rattle.lab_lattice.specs.Label.{Label, dominates, label_cmp}
 use Rattle.lab_lattice.proofs.Labels.{dominates_itself, dominates_both, label_cmp_total, label_cmp_exact}
 use Rattle.kern_model.specs.declared.world.WorldObject.{WorldObject}
 use Rattle.kern_model.specs.declared.world.WorldProc.{WorldProc}
 use Rattle.kern_model.specs.Rules.{same_label}
 use Rattle.kern_model.specs.World.{same_names, parent_names, object_with_path, objects_at, procs_at}
-use Rattle.world_text.specs.declared.builder.PathEntry.{PathEntry}
 use Rattle.world_text.specs.Placing.{directory_of, is_directory, is_above}
-use Rattle.world_text.specs.PathEntry.{path_entry_of, text_cmp, count_in, IsEntered, is_dir_entry, is_above_entry}
-use Rattle.world_text.specs.Written.{path_text}
-use Rattle.world_text.proofs.WrittenValues.{path_is}
+use Rattle.world_text.specs.Indexed.{path_entry_of, path_hash, count_in, is_dir_entry, is_above_entry}
+use Rattle.world_text.specs.Chains.{IsLast}
 use Rattle.kern_model.proofs.WorldLemmas.{names_same}
 
 -- ---- counts
@@ -77,62 +72,103 @@ pub procs_counted : (old new : BTreeMap Label ℕ) (procs more : List WorldProc)
 procs_counted old new procs more w updates is before l =
     updates l ∙ ap (λ k. k + cond (same_label w.label l) 1 0) (before l) ∙ sym (ap (procs_at l) is ∙ count_more (λ (x : WorldProc). same_label x.label l) procs w)
 
--- ---- entries at paths
+-- ---- objects by their paths
 
--- the texts of two paths are equal exactly where their names are
-texts_tie : (a b : List Name) → list_all is_name a ≡ true → list_all is_name b ≡ true → is_eq (text_cmp (path_text a) (path_text b)) ≡ same_names a b
-texts_tie a b h k = both_ways _ _ to_names to_texts
+-- the hash of an object's path
+abbrev pub hash_of : WorldObject → ℕ
+hash_of o = path_hash o.path.names
+
+-- where no object from a on has a path of these names, the first c have the one that the first a have
+none_between : (os : List WorldObject) (q : List Name) (a c : ℕ) → a ≤ c → ((k : ℕ) (o : WorldObject) → a ≤ k → k < c → slice_get os k ≡ Some o → same_names o.path.names q ≡ true → ⊥)
+    → object_with_path (take c os) q ≡ object_with_path (take a os) q
+none_between os q zero zero h unlike = refl
+none_between os q (suc a) zero h unlike = absurd (omega arith)
+none_between [] q zero (suc c) h unlike = refl
+none_between [] q (suc a) (suc c) h unlike = refl
+none_between (o ∷ os) q zero (suc c) h unlike =
+    by_test (same_names o.path.names q) refl (none_between os q zero c (omega arith) (λ k p from below at same. unlike (suc k) p (omega arith) (omega arith) at same))
   where
-    to_names : is_eq (text_cmp (path_text a) (path_text b)) ≡ true → same_names a b ≡ true
-    to_names e =
-        let texts : path_text a ≡ path_text b = (pointwise_decides unsigned_Decides (path_text a) (path_text b)).0 (texts_ties (path_text a) (path_text b) ∙ e) in
-        (pointwise_decides (pointwise_decides unsigned_Decides) a b).1 (ap (λ (p : PathValue). p.names) (sym (path_is a h) ∙ ap parse_path texts ∙ path_is b k))
+    by_test : (v : Bool) → same_names o.path.names q ≡ v → object_with_path (take c os) q ≡ None → cond (same_names o.path.names q) (Some o) (object_with_path (take c os) q) ≡ None
+    by_test true e rest = absurd (unlike 0 o (omega arith) (omega arith) refl e)
+    by_test false e rest = ap (λ t. cond t (Some o) (object_with_path (take c os) q)) e ∙ rest
+none_between (o ∷ os) q (suc a) (suc c) h unlike =
+    ap (λ w. cond (same_names o.path.names q) (Some o) w) (none_between os q a c (omega arith) (λ k p from below at same. unlike (suc k) p (omega arith) (omega arith) at same))
 
-    to_texts : same_names a b ≡ true → is_eq (text_cmp (path_text a) (path_text b)) ≡ true
-    to_texts e = sym (texts_ties (path_text a) (path_text b)) ∙ (pointwise_decides unsigned_Decides (path_text a) (path_text b)).1 (ap path_text (names_same a b e))
+hash_read : (os : List WorldObject) (k : ℕ) (o : WorldObject) → slice_get os k ≡ Some o → get_or (map hash_of os) k 0 ≡ path_hash o.path.names
+hash_read [] k o at = absurd (cc)
+hash_read (p ∷ ps) zero o at = let same : p ≡ o = cc in ap hash_of same
+hash_read (p ∷ ps) (suc k) o at = hash_read ps k o at
 
-either : (b : Bool) (o : WorldObject) (x y : Option WorldObject) → cond b (Some o) (option_or x y) ≡ option_or (cond b (Some o) x) y
-either true o x y = refl
-either false o x y = refl
+-- no path with this hash was given
+pub unseen : (os : List WorldObject) (q : List Name) (hashes : List ℕ) (hash n : ℕ) → hashes ≡ map hash_of os → hash ≡ path_hash q → IsLast (λ h. h ≡ hash) hashes n 0 → object_with_path (take n os) q ≡ None
+unseen os q hashes hash n are is last =
+    none_between os q 0 n (omega arith) (λ k o from below at same. last.none k from below (ap (λ hs. get_or hs k 0) are ∙ hash_read os k o at ∙ ap path_hash (names_same o.path.names q same) ∙ sym is))
 
-given_after : (os : List WorldObject) (o : WorldObject) (q : List Name) → object_with_path (os ++ o ∷ []) q ≡ option_or (object_with_path os q) (object_with_path (o ∷ []) q)
-given_after [] o q = refl
-given_after (p ∷ ps) o q = ap (λ w. cond (same_names p.path.names q) (Some p) w) (given_after ps o q) ∙ either (same_names p.path.names q) p (object_with_path ps q) (object_with_path (o ∷ []) q)
-
-or_none : (x : Option WorldObject) → option_or x None ≡ x
-or_none None = refl
-or_none (Some o) = refl
-
--- an entry that is put at the text of an object's path
-pub entered : (old new : BTreeMap (List ℕ) PathEntry) (o : WorldObject) (key : List ℕ) (s : PathEntry)
-    → ((t : List ℕ) → get text_cmp new t ≡ cond (is_at (text_cmp key) t) (Some s) (get text_cmp old t)) → key ≡ path_text o.path.names → s ≡ path_entry_of o → IsEntered old new o
-entered old new o key s updates text is t = updates t ∙ (λ i. cond (is_at (text_cmp (text i)) t) (Some (is i)) (get text_cmp old t))
-
--- one more object has the entry at the text of its path, where there was none
-pub stands_more : (old new : BTreeMap (List ℕ) PathEntry) (objects more : List WorldObject) (o : WorldObject) → IsEntered old new o → more ≡ objects ++ o ∷ []
-    → list_all is_name o.path.names ≡ true → object_with_path objects o.path.names ≡ None
-    → ((q : List Name) → list_all is_name q ≡ true → get text_cmp old (path_text q) ≡ option_map path_entry_of (object_with_path objects q))
-    → (q : List Name) → list_all is_name q ≡ true → get text_cmp new (path_text q) ≡ option_map path_entry_of (object_with_path more q)
-stands_more old new objects more o updates grown named free before q h =
-    updates (path_text q) ∙ ap (λ e. cond (is_eq (text_cmp (path_text o.path.names) (path_text q))) (Some (path_entry_of o)) e) (before q h)
-    ∙ ap (λ t. cond t (Some (path_entry_of o)) (option_map path_entry_of (object_with_path objects q))) (texts_tie o.path.names q named h)
-    ∙ by_test (same_names o.path.names q) refl ∙ sym (ap (option_map path_entry_of) (ap (λ (os : List WorldObject). object_with_path os q) grown ∙ given_after objects o q))
+-- the last path with this hash is another
+pub passed : (os : List WorldObject) (q : List Name) (hashes : List ℕ) (hash n place : ℕ) (o : WorldObject) → hashes ≡ map hash_of os → hash ≡ path_hash q → IsLast (λ h. h ≡ hash) hashes n (place + 1)
+    → slice_get os place ≡ Some o → same_names o.path.names q ≡ false → object_with_path (take n os) q ≡ object_with_path (take place os) q
+passed os q hashes hash n place o are is last at other =
+    none_between os q place n (let w = last.within in omega arith) (λ k p from below there same. by_place k p from below there same (cases_eq k place))
   where
-    by_test : (v : Bool) → same_names o.path.names q ≡ v
-        → cond (same_names o.path.names q) (Some (path_entry_of o)) (option_map path_entry_of (object_with_path objects q)) ≡ option_map path_entry_of (option_or (object_with_path objects q) (cond (same_names o.path.names q) (Some o) None))
-    by_test true e =
-        let none : object_with_path objects q ≡ None = ap (object_with_path objects) (sym (names_same o.path.names q e)) ∙ free in
-        ap (λ t. cond t (Some (path_entry_of o)) (option_map path_entry_of (object_with_path objects q))) e
-        ∙ sym (λ i. option_map path_entry_of (option_or (none i) (cond (e i) (Some o) None)))
-    by_test false e =
-        ap (λ t. cond t (Some (path_entry_of o)) (option_map path_entry_of (object_with_path objects q))) e
-        ∙ sym (ap (λ t. option_map path_entry_of (option_or (object_with_path objects q) (cond t (Some o) None))) e ∙ ap (option_map path_entry_of) (or_none (object_with_path objects q)))
+    by_place : (k : ℕ) (p : WorldObject) → place ≤ k → k < n → slice_get os k ≡ Some p → same_names p.path.names q ≡ true → (k ≡ place) ⊎ (k ≡ place → ⊥) → ⊥
+    by_place k p from below there same (inl e) =
+        let here : o ≡ p = (let both = sym at ∙ ap (slice_get os) (sym e) ∙ there in cc) in
+        let fails : false ≡ true = sym other ∙ ap (λ (x : WorldObject). same_names x.path.names q) here ∙ same in
+        cc
+    by_place k p from below there same (inr apart) =
+        last.none k (omega arith) below (ap (λ hs. get_or hs k 0) are ∙ hash_read os k p there ∙ ap path_hash (names_same p.path.names q same) ∙ sym is)
+
+-- an object is the one with its path where none before it has that
+found_at : (os : List WorldObject) (q : List Name) (i : ℕ) (o : WorldObject) → slice_get os i ≡ Some o → same_names o.path.names q ≡ true → object_with_path (take i os) q ≡ None → object_with_path os q ≡ Some o
+found_at [] q i o at same none = absurd (cc)
+found_at (p ∷ ps) q zero o at same none =
+    let here : p ≡ o = cc in
+    ap (λ t. cond t (Some p) (object_with_path ps q)) (ap (λ (x : WorldObject). same_names x.path.names q) here ∙ same) ∙ at
+found_at (p ∷ ps) q (suc i) o at same none = by_test (same_names p.path.names q) refl none (found_at ps q i o at same)
+  where
+    by_test : (v : Bool) → same_names p.path.names q ≡ v → cond (same_names p.path.names q) (Some p) (object_with_path (take i ps) q) ≡ None
+        → (object_with_path (take i ps) q ≡ None → object_with_path ps q ≡ Some o) → cond (same_names p.path.names q) (Some p) (object_with_path ps q) ≡ Some o
+    by_test true e none rest = let fails : Some p ≡ None = ap (λ t. cond t (Some p) (object_with_path (take i ps) q)) (sym e) ∙ none in absurd (cc)
+    by_test false e none rest = ap (λ t. cond t (Some p) (object_with_path ps q)) e ∙ rest (ap (λ t. cond t (Some p) (object_with_path (take i ps) q)) (sym e) ∙ none)
+
+pub at_place : (xs os : List WorldObject) (i : ℕ) (o : WorldObject) → xs ≡ os → i < length xs → o ≡ get_or xs i o → slice_get os i ≡ Some o
+at_place xs os i o items inside read = ap (λ (ys : List WorldObject). slice_get ys i) (sym items) ∙ slice_get_read xs (length xs) i o refl inside read
+
+-- the object at a place is the one with its path
+pub found_here : (os xs ws : List WorldObject) (q : List Name) (i : ℕ) (o : WorldObject) → xs ≡ os → os ≡ ws → ((i : ℕ) (o : WorldObject) → slice_get os i ≡ Some o → object_with_path (take i os) o.path.names ≡ None)
+    → i < length xs → o ≡ get_or xs i o → same_names o.path.names q ≡ true → slice_get ws i ≡ object_with_path ws q
+found_here os xs ws q i o items view apart inside read same =
+    let at = at_place xs os i o items inside read in
+    let found : slice_get os i ≡ object_with_path os q = at ∙ sym (found_at os q i o at same (ap (object_with_path (take i os)) (sym (names_same o.path.names q same)) ∙ apart i o at)) in
+    subst (λ (ys : List WorldObject). slice_get ys i ≡ object_with_path ys q) view found
+
+-- an item of a list with one more is one of the list or that one
+at_more : (os : List WorldObject) (o : WorldObject) (i : ℕ) (p : WorldObject) → slice_get (os ++ o ∷ []) i ≡ Some p → (((i < length os) × (slice_get os i ≡ Some p)) ⊎ ((i ≡ length os) × (o ≡ p)))
+at_more [] o zero p at = inr (refl, cc)
+at_more [] o (suc i) p at = absurd (cc)
+at_more (x ∷ xs) o zero p at = inl (omega arith, at)
+at_more (x ∷ xs) o (suc i) p at = elim (at_more xs o i p at) [ inl h ↦ inl ((let less = h.0 in omega arith), h.1) | inr h ↦ inr (ap suc h.0, h.1) ]
+
+-- with one more object whose path was not given, each has a path that was not given before it
+pub apart_more : (os more : List WorldObject) (o : WorldObject) → more ≡ os ++ o ∷ [] → object_with_path os o.path.names ≡ None
+    → ((i : ℕ) (p : WorldObject) → slice_get os i ≡ Some p → object_with_path (take i os) p.path.names ≡ None)
+    → (i : ℕ) (p : WorldObject) → slice_get more i ≡ Some p → object_with_path (take i more) p.path.names ≡ None
+apart_more os more o grown free apart i p at =
+    ap (λ (xs : List WorldObject). object_with_path (take i xs) p.path.names) grown
+    ∙ by_place (at_more os o i p (ap (λ (xs : List WorldObject). slice_get xs i) (sym grown) ∙ at))
+  where
+    by_place : (((i < length os) × (slice_get os i ≡ Some p)) ⊎ ((i ≡ length os) × (o ≡ p))) → object_with_path (take i (os ++ o ∷ [])) p.path.names ≡ None
+    by_place (inl h) = ap (λ (xs : List WorldObject). object_with_path xs p.path.names) (take-append-le i os (o ∷ []) (let less = h.0 in omega arith)) ∙ apart i p h.1
+    by_place (inr h) =
+        ap (λ (xs : List WorldObject). object_with_path xs p.path.names) (ap (λ n. take n (os ++ o ∷ [])) h.0 ∙ take-append_seam os (o ∷ []))
+        ∙ ap (λ (x : WorldObject). object_with_path os x.path.names) (sym h.1) ∙ free
+
+-- one more hash is that of one more object
+pub hashes_more : (os more : List WorldObject) (o : WorldObject) (old new : List ℕ) (hash : ℕ) → more ≡ os ++ o ∷ [] → new ≡ old ++ hash ∷ [] → hash ≡ path_hash o.path.names → old ≡ map hash_of os → new ≡ map hash_of more
+hashes_more os more o old new hash grown longer is are =
+    longer ∙ (λ i. are i ++ is i ∷ []) ∙ sym (ap (map hash_of) grown ∙ map-append hash_of os (o ∷ []))
 
 -- ---- directories
-
--- the first of some names are names
-pub first_named : (n : ℕ) (names : List Name) → list_all is_name names ≡ true → list_all is_name (take n names) ≡ true
-first_named n names h = (and_parts _ _ (sym (list_all-append is_name (take n names) (drop n names)) ∙ ap (list_all is_name) (take-append-drop n names) ∙ h)).0
 
 parent_taken : (n : Name) (ns : List Name) → parent_names (n ∷ ns) ≡ take (length ns) (n ∷ ns)
 parent_taken n [] = refl

@@ -1,5 +1,6 @@
 pub mod RangeLemmas
 pub mod AppendLemmas
+pub mod ChainLemmas
 pub mod BuilderLemmas
 pub mod PlacingLemmas
 pub mod FormatLaws

@@ -14,7 +14,7 @@ use Rattle.line_text.specs.declared.fault.LineFault.{LineFault}
 use Rattle.line_text.specs.declared.fault.LineFault.TheVariants.{Repeated, NoParent, LabelOrder, RootLabel, TooMany}
 use Rattle.world_text.specs.declared.builder.PathEntry.{PathEntry}
 use Rattle.world_text.specs.Tree.{Tree}
-use Rattle.world_text.specs.PathEntry.{path_entry_of, is_dir_entry, is_above_entry}
+use Rattle.world_text.specs.Indexed.{path_entry_of, is_dir_entry, is_above_entry}
 use Rattle.world_text.specs.Placing.{is_directory, is_above, directory_of, is_root, object_fault, process_fault}
 use Rattle.world_text.proofs.BuilderLemmas.{stands_as_dir, stands_above}
 

@@ -7,7 +7,8 @@ pub mod TreeLines
 pub mod Processes
 pub mod Keywords
 pub mod Expecting
-pub mod PathEntry
+pub mod Chains
+pub mod Indexed
 pub mod Written
 pub mod CanBeRead
 pub mod Reading

@@ -1,26 +1,23 @@
 // Objects and processes of a world as they are read.
-ghost use Rattle.std.specs.Prelude.{◌≡◌, ◌<◌, ◌==◌, ◌&&◌, ◌||◌, not, [], ◌∷◌, ◌++◌, nat_le, is_some, true, IfOk, OnOk, length, None};
-ghost use Rattle.std.specs.List.{list_all};
+ghost use Rattle.std.specs.Prelude.{◌≡◌, ◌<◌, ◌==◌, ◌&&◌, ◌||◌, not, [], ◌∷◌, ◌++◌, nat_le, is_some, IfOk, IfSome, IsTrue, OnOk, length, slice_get, None};
 ghost use Rattle.std.specs.Option.{option_map};
-ghost use Rattle.fs_path.specs.Name.{is_name};
 ghost use Rattle.lab_lattice.specs.Label.{Label, bottom, dominates};
 ghost use Rattle.kern_model.specs.declared.limits.TheConstants.{MAX_OBJECTS, MAX_PROCS};
 ghost use Rattle.kern_model.specs.Kinds.{kind_of, is_dir};
-ghost use Rattle.kern_model.specs.Rules.{same_label};
-ghost use Rattle.kern_model.specs.World.{object_with_path, objects_at, procs_at};
-ghost use Rattle.world_text.specs.PathEntry.{path_entry_of, count_in, IsCounted, IsEntered, is_dir_entry, is_above_entry};
+ghost use Rattle.kern_model.specs.World.{object_with_path, same_names, objects_at, procs_at};
+ghost use Rattle.world_text.specs.Indexed.{path_entry_of, path_hash, object_at, count_in, IsCounted, is_dir_entry, is_above_entry};
 ghost use Rattle.world_text.specs.Placing.{directory_of, is_root, object_fault, process_fault};
-ghost use Rattle.world_text.specs.Written.{path_text};
 
 use crate::NoMemory;
-use crate::writing::path_text;
-use fs_path::{ByteList, List, Name, Path};
+use crate::chains::Chains;
+use fs_path::{List, Name, Path};
 use kern_model::limits::{MAX_OBJECTS, MAX_PROCS};
 use kern_model::{Body, ObjectList, ProcList, WorldObject, WorldProc};
 use lab_lattice::{Label, Lattice, bottom};
 use line_text::LineFault;
 use std::alloc::Global;
 use std::collections::BTreeMap;
+use std::hash::{FoldHasher, Hasher};
 use std::marker::Model;
 
 /// How many there are at each label.
@@ -110,48 +107,41 @@ fn is_wrong_root(object: &WorldObject) -> bool
     is_root(&object.path) && !may_be_root(object)
 }
 
-// The key of a path in the index: its text.
-fn key_of(alloc: Global, names: &[Name]) -> Result<ByteList, NoMemory>
-    ensures { IfOk result (λ key. key ≡ path_text names.now) }
+// The hash of a path of these names.
+fn path_hash(names: &[Name]) -> u32
+    ensures { result ≡ path_hash names.now }
 {
-    let text = path_text(alloc, names)?;
-    ByteList::from_slice(alloc, text.as_slice())
+    let mut hasher = FoldHasher::default();
+    for name in names {
+        hasher.write(name.bytes());
+    }
+    (hasher.finish() >> 32) as u32
 }
 
-/// What stands at each path, by its text.
-type Index = BTreeMap<ByteList, PathEntry>;
-
-// Enters an object at its path, and counts it.
-fn enter(
-    alloc: Global,
-    index: &mut Index,
-    counts: &mut Counts,
-    object: &WorldObject,
-) -> Result<(), NoMemory>
-    requires { count_in counts.old object.now.label < MAX_OBJECTS }
-    ensures entered { OnOk result (IsEntered index.old index.new object.now) }
-    ensures counted { OnOk result (IsCounted counts.old counts.new object.now.label) }
-    ensures named { list_all is_name object.now.path.names ≡ true }
+// Whether an object has a path of these names.
+fn has_path(object: &WorldObject, names: &[Name]) -> bool
+    ensures { result ≡ same_names object.now.path.names names.now }
 {
-    let key = key_of(alloc, object.path.components())?;
-    index.insert(key, path_entry_of(object))?;
-    count_one(counts, &object.label)
+    object.path.components() == names
 }
 
-/// Objects and processes in the order of their lines, with an index of their paths and counts at each label, so that no
-/// line is compared with all lines before it.
+/// Objects and processes in the order of their lines, with chains of the objects by their paths and counts at each label, so
+/// that no line is compared with all lines before it.
 #[derive(Drop)]
 pub struct WorldBuilder {
     objects: ObjectList,
     procs: ProcList,
-    index: Index,
+    // The objects by the hashes of their paths.
+    chains: Chains,
+    // Where the directory of the last object stands: it is mostly that of the next one.
+    directory: Option<usize>,
     object_counts: Counts,
     proc_counts: Counts,
 }
 
 impl Model for WorldBuilder {
     ghost use Rattle.world_text.specs.Tree.{Tree};
-    ghost use Rattle.world_text.specs.PathEntry.{IsIndexed};
+    ghost use Rattle.world_text.specs.Indexed.{IsIndexed};
     ghost use Rattle.std.specs.Coded.{codes};
     ghost use Rattle.std.specs.FinSet as set;
     ghost use Rattle.cap_bits.specs.Cap.{cap_cmp, cap_code};
@@ -163,7 +153,7 @@ impl Model for WorldBuilder {
 
     ghost view = { λ d. record { objects = d.objects; procs = d.procs } };
 
-    ghost invariant = { λ d. IsIndexed (record { objects = d.objects; procs = d.procs }) d.index d.object_counts d.proc_counts };
+    ghost invariant = { λ d. IsIndexed (record { objects = d.objects; procs = d.procs }) d.chains d.object_counts d.proc_counts };
 }
 
 impl WorldBuilder {
@@ -174,7 +164,8 @@ impl WorldBuilder {
         WorldBuilder {
             objects: List::new(alloc),
             procs: List::new(alloc),
-            index: BTreeMap::new(alloc),
+            chains: Chains::new(alloc),
+            directory: None,
             object_counts: BTreeMap::new(alloc),
             proc_counts: BTreeMap::new(alloc),
         }
@@ -187,32 +178,68 @@ impl WorldBuilder {
         self.objects.items().is_empty()
     }
 
-    // What stands at a path of these names.
-    fn entry_at(&self, alloc: Global, names: &[Name]) -> Result<Option<PathEntry>, NoMemory>
-        requires { list_all is_name names.now ≡ true }
-        ensures { IfOk result (λ entry. entry ≡ option_map path_entry_of (object_with_path self.now.objects names.now)) }
+    // Where the object with a path of these names stands.
+    fn find(&self, names: &[Name]) -> Option<usize>
+        ensures within { IfSome result (λ place. place < length self.now.objects) }
+        ensures found { object_at self.now.objects result ≡ object_with_path self.now.objects names.now }
     {
-        let key = key_of(alloc, names)?;
-        Ok(self.index.get(&key).copied())
+        let objects = self.objects.items();
+        let hash = path_hash(names);
+        let mut count = objects.len();
+        while let Some(place) = self.chains.last_before(hash, count) {
+            if has_path(&objects[place], names) {
+                return Some(place);
+            }
+            count = place;
+        }
+        None
+    }
+
+    // Whether an object stands at this place that has a path of these names.
+    fn is_at(&self, place: usize, names: &[Name]) -> bool
+        ensures within { IsTrue result → place < length self.now.objects }
+        ensures found { IsTrue result → slice_get self.now.objects place ≡ object_with_path self.now.objects names.now }
+    {
+        let objects = self.objects.items();
+        place < objects.len() && has_path(&objects[place], names)
+    }
+
+    // Where the object with a path of these names stands. The directory of the last object is tried first.
+    fn place_of(&self, names: &[Name]) -> Option<usize>
+        ensures within { IfSome result (λ place. place < length self.now.objects) }
+        ensures found { object_at self.now.objects result ≡ object_with_path self.now.objects names.now }
+    {
+        match self.directory {
+            Some(place) if self.is_at(place, names) => Some(place),
+            _ => self.find(names),
+        }
     }
 
     // Whether an object with this path was given.
-    fn is_given(&self, alloc: Global, path: &Path) -> Result<bool, NoMemory>
-        ensures { IfOk result (λ given_before. given_before ≡ is_some (object_with_path self.now.objects path.now.names)) }
+    fn is_given(&self, path: &Path) -> bool
+        ensures { result ≡ is_some (object_with_path self.now.objects path.now.names) }
     {
-        let entry = self.entry_at(alloc, path.components())?;
-        Ok(entry.is_some())
+        self.find(path.components()).is_some()
     }
 
-    // What stands at the path of the directory. The root has none.
-    fn directory_of(&self, alloc: Global, path: &Path) -> Result<Option<PathEntry>, NoMemory>
-        ensures { IfOk result (λ directory. directory ≡ option_map path_entry_of (directory_of self.now.objects path.now.names)) }
+    // Where the directory of a path stands. The root has none.
+    fn place_of_directory(&self, path: &Path) -> Option<usize>
+        ensures within { IfSome result (λ place. place < length self.now.objects) }
+        ensures found { object_at self.now.objects result ≡ directory_of self.now.objects path.now.names }
     {
         let names = path.components();
         if names.is_empty() {
-            return Ok(None);
+            return None;
         }
-        self.entry_at(alloc, &names[..names.len() - 1])
+        self.place_of(&names[..names.len() - 1])
+    }
+
+    // What stands at the path of the directory. The root has none.
+    fn directory_of(&self, path: &Path) -> Option<PathEntry>
+        ensures { result ≡ option_map path_entry_of (directory_of self.now.objects path.now.names) }
+    {
+        let place = self.place_of_directory(path)?;
+        Some(path_entry_of(&self.objects.items()[place]))
     }
 
     // Whether no number of the label is left for an object.
@@ -230,31 +257,26 @@ impl WorldBuilder {
     }
 
     /// Why an object can't come after those before it, if it can't.
-    pub fn object_fault(
-        &self,
-        alloc: Global,
-        object: &WorldObject,
-    ) -> Result<Option<LineFault>, NoMemory>
-        ensures { IfOk result (λ fault. fault ≡ object_fault self.now object.now) }
+    pub fn object_fault(&self, object: &WorldObject) -> Option<LineFault>
+        ensures { result ≡ object_fault self.now object.now }
     {
-        let repeated = self.is_given(alloc, &object.path)?;
-        if repeated {
-            return Ok(Some(LineFault::Repeated));
+        if self.is_given(&object.path) {
+            return Some(LineFault::Repeated);
         }
-        let directory = self.directory_of(alloc, &object.path)?;
+        let directory = self.directory_of(&object.path);
         if !has_parent(object, &directory) {
-            return Ok(Some(LineFault::NoParent));
+            return Some(LineFault::NoParent);
         }
         if is_wrong_root(object) {
-            return Ok(Some(LineFault::RootLabel));
+            return Some(LineFault::RootLabel);
         }
         if !is_above_entry(&object.label, &directory) {
-            return Ok(Some(LineFault::LabelOrder));
+            return Some(LineFault::LabelOrder);
         }
         if self.is_full_of_objects(&object.label) {
-            return Ok(Some(LineFault::TooMany));
+            return Some(LineFault::TooMany);
         }
-        Ok(None)
+        None
     }
 
     /// Why a process can't come after those before it, if it can't.
@@ -277,12 +299,10 @@ impl WorldBuilder {
         ensures { IfOk result (λ builder. builder ≡ record self { objects = self.objects ++ object ∷ [] }) }
     {
         let mut builder = self;
-        enter(
-            alloc,
-            &mut builder.index,
-            &mut builder.object_counts,
-            &object,
-        )?;
+        builder.directory = builder.place_of_directory(&object.path);
+        let hash = path_hash(object.path.components());
+        builder.chains.push(alloc, hash)?;
+        count_one(&mut builder.object_counts, &object.label)?;
         builder.objects.push(object)?;
         Ok(builder)
     }

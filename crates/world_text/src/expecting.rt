@@ -88,7 +88,7 @@ impl PartialWorld {
     ) -> Result<Parsed, NoMemory>
         ensures { IfOk result (λ parsed. parsed ≡ parse_object self object uniform) }
     {
-        match self.builder.object_fault(alloc, &object)? {
+        match self.builder.object_fault(&object) {
             Some(fault) => Ok(Parsed::Refuses(fault)),
             None if !uniform => Ok(Parsed::Refuses(LineFault::MixedCaps)),
             None => {

@@ -3,6 +3,7 @@
 
 mod builder;
 mod canonical;
+mod chains;
 mod expecting;
 mod fault;
 mod format;

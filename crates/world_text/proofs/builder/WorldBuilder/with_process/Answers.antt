@@ -13,7 +13,8 @@ count_one-requires c =
 
 pub invariant_of-builder : goal.invariant_of-builder
 invariant_of-builder c = record {
-  stands = c.builder.invariant.stands;
+  hashes_are = c.builder.invariant.hashes_are;
+  apart = c.builder.invariant.apart;
   objects_are = c.builder.invariant.objects_are;
   procs_are = procs_counted c.builder.inside.proc_counts c.count_one.new.counts c.builder.inside.procs c.push.new.self c.args.process c.in_ok-count_one.ensures c.in_ok-push.ensures.ok c.builder.invariant.procs_are;
 }
