@@ -8,6 +8,8 @@ mod generated;
 #[cfg(test)]
 mod labels;
 #[cfg(test)]
+mod narrowing;
+#[cfg(test)]
 mod paths;
 #[cfg(test)]
 mod records;

@@ -1,0 +1,9 @@
+pub mod BootWithout
+pub mod CallsWithout
+pub mod NarrowedRuns
+pub mod NarrowedSets
+pub mod NarrowedWorlds
+pub mod RowsWithout
+pub mod StatesWithout
+pub mod StepsWithout
+pub mod Unions
