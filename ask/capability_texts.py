@@ -67,7 +67,7 @@ def name_faults(listed: str, column: int) -> Iterator[TextFault]:
     for found in re.finditer(r"[^,]+|(?<=,)(?=,|$)|^(?=,)", listed):
         name = found[0].lower()
         if not name:
-            yield TextFault(column + found.start(), 1, False, "the name of a capability is due")
+            yield TextFault(column + found.start(), 1, True, "the name of a capability is due")
         elif name not in CAPABILITIES and name != "all":
             near = f"; meant may be cap_{name}" if "cap_" + name in CAPABILITIES else ""
             yield TextFault(column + found.start(), len(name), True, f"unknown capability {found[0]}{near}")

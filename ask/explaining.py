@@ -111,7 +111,7 @@ def set_text_fault(text: str) -> Iterator[TextFault]:
     column = 0
     for name in text.split(","):
         if not name:
-            yield TextFault(column, 1, False, "the name of a capability is due; none and all are set texts too")
+            yield TextFault(column, 1, bool(text), "the name of a capability is due; none and all are set texts too")
         elif name.lower() not in CAPABILITIES and name.lower() != "all":
             yield TextFault(column, len(name), True, f"unknown capability {name}")
         column += len(name) + 1

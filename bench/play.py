@@ -5,8 +5,8 @@
 
 It prints the tables of README.md: wall time, and the most memory that the run held at a time. A part is what one section of that
 page has: `inputs`, which are scripts and worlds up to the limits of an input and of a label, `lines`, `directories`, `objects`,
-`descriptors`, `processes`, `attributes`, `commands` and `trails`. Without parts it prints all. PROGRAM is the built one where none is given;
-the script `labsys` would add its own time.
+`descriptors`, `processes`, `attributes`, `commands`, `programs` and `trails`. Without parts it prints all. PROGRAM is the built one where none
+is given; the script `labsys` would add its own time.
 """
 import argparse
 import os
@@ -185,6 +185,27 @@ def attributed(files):
     return OPEN + b"".join(world) + started(1) + b"".join(lines)
 
 
+SLICES = [level + cats for level in ("l0", "l1", "l2", "l3") for cats in ("", ":a", ":b", ":c", ":d", ":a,b", ":a,c", ":a,d", ":b,c", ":b,d", ":c,d", ":a,b,c", ":a,b,d", ":a,c,d", ":b,c,d", ":a,b,c,d")]
+CROWD = "world 2\nlevels l0 l1 l2 l3\ncategories a b c d\nbound all\ndir / 0777 0 0 l0\n" + "".join(f'proc {label} 10 10 - "="\n' * 63 for label in SLICES)
+
+
+def turned(turns):
+    """This many turns of 64 labels, each of 63 processes, which ask for their numbers."""
+    programs = "".join(f"program {n}@{label}\ndo getpid\njump always 0\n" for label in SLICES for n in range(1, 64))
+    return f"{CROWD}script\nslices {' '.join(SLICES)}\nrounds {turns // 64}\n{programs}".encode()
+
+
+def turned_script(turns):
+    """The same calls as a script."""
+    calls = "".join(f"{n % 63 + 1}@{label} getpid\n" for n in range(turns // 64) for label in SLICES)
+    return f"{CROWD}script\n{calls}".encode()
+
+
+def generated(program, calls):
+    """The generated input of this many calls."""
+    return subprocess.run([program, "gen", str(calls)], stdout=subprocess.PIPE, check=True).stdout
+
+
 def recorded(records):
     """A trail with this many records of each kind in turn, about 54 bytes each."""
     lines = [
@@ -338,6 +359,14 @@ def commands(run_of):
     for count in (12_500, 25_000, 50_000, 100_000):
         show(run_of, f"`gen {count}`", started, 0, words=("gen", str(count)))
         show(run_of, f"`drill {count}`", started, 0, words=("drill", str(count)))
+        show(run_of, f"`least` of `gen {count}`", generated, run_of[0], count, words=("least",))
+
+
+def programs(run_of):
+    """The rows of programs in turns, and of their calls as scripts."""
+    for turns in (12_500, 25_000, 50_000, 100_000):
+        show(run_of, f"`sched` of {turns // 64 * 64:,} turns", turned, turns, words=("sched", "trail.out"))
+        show(run_of, f"`play` of {turns // 64 * 64:,} calls", turned_script, turns)
 
 
 def trails(run_of):
@@ -347,7 +376,7 @@ def trails(run_of):
             show(run_of, f"`{' '.join(words)}` of {{:,}} lines", recorded, records, words=words)
 
 
-PARTS = [inputs, lines, directories, objects, descriptors, processes, attributes, commands, trails]
+PARTS = [inputs, lines, directories, objects, descriptors, processes, attributes, commands, programs, trails]
 
 
 def main():
