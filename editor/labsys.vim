@@ -9,6 +9,10 @@ endif
 
 " the first word of a line of a world, and the first two of a line of a script
 syntax match labsysKeyword /^ *\(world\|levels\|categories\|grades\|bound\|dir\|file\|fifo\|proc\|script\)\>/
+" the first word of a line of programs
+syntax match labsysKeyword /^ *\(slices\|rounds\|program\|stop\)\>/
+syntax match labsysKeyword /^ *jump\s\+\(always\|fresh\|done\|denied\|refused\|number\)\>/
+syntax match labsysKeyword /^ *do\>/ nextgroup=labsysCall skipwhite
 syntax match labsysTag /^ *\d\+@\S\+/ nextgroup=labsysCall,labsysUtility skipwhite
 syntax keyword labsysCall contained open close read write lseek dup pipe fstat mkfifo mkdir rmdir
 syntax keyword labsysCall contained link unlink rename readdir stat chdir chmod chown cap_get_file

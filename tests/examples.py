@@ -4,8 +4,8 @@
     examples.py --cmd COMMAND            fails where something differs
     examples.py --cmd COMMAND --write    writes what is stored and shown anew
 
-Each world `examples/NAME.txt` is played. `examples/NAME.out` has its output, and `examples/NAME.trail` its trail.
-`examples/README.md` names each.
+Each world `examples/NAME.txt` is played, and each of `examples/programs/NAME.txt` by its programs. Beside it `NAME.out` has its
+output, and `NAME.trail` its trail. `examples/README.md` names each.
 
 On a page, a block between two lines ``` is played where it begins with `$ `. Each line of it that begins with `$ ` is a
 command for `sh`. The lines after it, up to the next command or the end of the block, are what the command writes. The
@@ -25,6 +25,7 @@ import tempfile
 
 TOP = pathlib.Path(__file__).resolve().parent.parent
 EXAMPLES = TOP / "examples"
+PROGRAMS = EXAMPLES / "programs"
 PAGES = [TOP / "README.md", *sorted((TOP / "docs").glob("*.md")), EXAMPLES / "README.md"]
 BLOCK = re.compile(r"^```\n(.*?)^```$", re.M | re.S)
 SHOWN = 12
@@ -51,7 +52,8 @@ def run(command, folder, given=b""):
 
 def play_example(path, folder):
     """The output and the trail of an example."""
-    status, output = run(["./labsys", "play", "trail"], folder, path.read_bytes())
+    word = "sched" if path.parent == PROGRAMS else "play"
+    status, output = run(["./labsys", word, "trail"], folder, path.read_bytes())
     if status != 0:
         raise Fault(f"exit status {status}")
     return output, (folder / "trail").read_bytes()
@@ -109,10 +111,10 @@ def difference(path, due):
 def left_over(examples):
     """Outputs and trails without their example, and examples that the page does not name."""
     page = (EXAMPLES / "README.md").read_text(encoding="utf-8")
-    for path in sorted(EXAMPLES.iterdir()):
+    for path in sorted([*EXAMPLES.iterdir(), *PROGRAMS.iterdir()]):
         if path.suffix in (".out", ".trail") and path.with_suffix(".txt") not in examples:
             yield path, "no example has this name"
-        elif path in examples and f"`{path.name}`" not in page:
+        elif path in examples and f"`{path.relative_to(EXAMPLES)}`" not in page:
             yield path, "examples/README.md does not name it"
 
 
@@ -133,7 +135,7 @@ def main():
     parser.add_argument("--write", action="store_true", help="write what is stored and shown anew, unless there is a fault")
     words = parser.parse_args()
     cmd = [os.path.abspath(word) if os.path.exists(word) else word for word in shlex.split(words.cmd)]
-    examples = sorted(EXAMPLES.glob("*.txt"))
+    examples = sorted([*EXAMPLES.glob("*.txt"), *PROGRAMS.glob("*.txt")])
     due, faults = play_all(examples + PAGES, cmd)
     faults += left_over(examples)
     differing = {path: lines for path, content in due.items() if (lines := difference(path, content))}

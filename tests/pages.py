@@ -390,7 +390,7 @@ def parts_of_headline():
 
 def clauses_of_page():
     rows = rows_of(section_alone("docs/THEOREMS.md", "The other clauses of `run`"))
-    return sorted({name for cells in rows for name in CODE.findall(cells[1])} - {*fields_of_plays(), "view_alone", "upgraded", "answers"})
+    return sorted({name for cells in rows for name in CODE.findall(cells[1])} - {*fields_of_plays(), "view_alone", "upgraded", "narrowed", "answers"})
 
 
 def in_order(words):
@@ -500,6 +500,9 @@ VALUES = {
     "LINES": lambda: constant("gen_world/src/generator.rt", "MAX_LINES"),
     "SLICES": lambda: constant("sched_engine/src/schedule.rt", "MAX_SLICES"),
     "TURNS": lambda: constant("sched_engine/src/schedule.rt", "MAX_TURNS"),
+    "STEPS": lambda: constant("sched_engine/src/programs.rt", "MAX_STEPS"),
+    "PLACE": lambda: constant("script_text/src/step_word.rt", "MAX_PLACE"),
+    "JUMPS": lambda: constant("sched_progs/src/moving.rt", "MAX_JUMPS"),
     "CHUNK": lambda: constant("io_ends/src/whole.rt", "CHUNK"),
     "TIER": lambda: constant("fs_dirs/src/tiers.rt", "TIER"),
     "NoProgram": lambda: status_of_script("give_up"),
@@ -655,7 +658,7 @@ NUMBERS = [
     ("docs/FORMATS.md", "| {NoMemory} | out of memory"),
     ("docs/FORMATS.md", "| {TooLong} | the input is too long"),
     ("docs/FORMATS.md", "it runs no program, and ends with status {NoProgram}."),
-    ("docs/FORMATS.md", "`play FILE` is refused with status {SameFile} and one line"),
+    ("docs/FORMATS.md", "`play FILE` or `sched FILE` is refused with status {SameFile} and one line"),
     ("docs/FORMATS.md", "so the status is {ReadFault} or {WriteFault}"),
     ("docs/FORMATS.md", "with status {WriteFault} or {TrailFault}, and raises no signal"),
     ("docs/FORMATS.md", "with a value from 1 to {LINES}."),
@@ -681,6 +684,13 @@ NUMBERS = [
     ("docs/FORMATS.md", "a line of the world may have more than {LINE} bytes then"),
     ("docs/FORMATS.md", "the tag is not `n@label` with n from 1 to {PROCESSES} and"),
     ("docs/FORMATS.md", "the number of a PID is not from 1 to {PROCESSES}, or"),
+    ("docs/FORMATS.md", "| `slices LABEL ...` | 1 to {SLICES} labels"),
+    ("docs/FORMATS.md", "N times the number of labels is at most {TURNS} |"),
+    ("docs/FORMATS.md", "| steps | up to {STEPS} lines of steps"),
+    ("docs/FORMATS.md", "TO is a number from 0 to {PLACE}."),
+    ("docs/FORMATS.md", "no label after `slices`, or more than {SLICES} |"),
+    ("docs/FORMATS.md", "the tag of `program` is not `n@label` with n from 1 to {PROCESSES} and"),
+    ("docs/PROFILE.md", "or took {JUMPS} jumps"),
     ("docs/FORMATS.md", "`all` in a list stands for all {CAPABILITIES} names"),
     ("docs/FORMATS.md", "has no list and is about all {CAPABILITIES}."),
     ("docs/FORMATS.md", "`too_long` where it has more than {LINE} bytes, and else"),
@@ -700,12 +710,17 @@ NUMBERS = [
     ("docs/THEOREMS.md", "With status {Done} of `lineage`"),
     ("docs/THEOREMS.md", "After status {Done} of a command that reads the source"),
     ("docs/THEOREMS.md", "With status {Done} of `upgrade`"),
+    ("docs/THEOREMS.md", "With status {Done} of `least`"),
+    ("docs/THEOREMS.md", "Where each line of that text has at most {LINE} bytes, and the output with all that stands behind"),
+    ("docs/THEOREMS.md", "of the input at most {INPUT}, the output and that are an input"),
     ("docs/THEOREMS.md", "Where each line of that text has at most {LINE} bytes, and the output at most {INPUT}"),
     ("docs/THEOREMS.md", "With status {Refused} or {TooLong} the due bytes are"),
     ("docs/THEOREMS.md", "With status {ReadFault} the source counted one fault in this call"),
     ("docs/THEOREMS.md", "with status {WriteFault} the output, and with status {TrailFault} the trail"),
     ("docs/THEOREMS.md", "Status {ReadFault} comes only of a command that reads the source"),
-    ("docs/THEOREMS.md", "and status {TrailFault} only of `play`"),
+    ("docs/THEOREMS.md", "and status {TrailFault} only of one that writes the trail"),
+    ("docs/THEOREMS.md", "`isolated_whole` | With status {Done}, {Refused} or {TooLong} all reply lines are in the output. Where no call crosses L, the calls of Low"),
+    ("docs/THEOREMS.md", "one list is a prefix of the other. With status {Done}, {Refused} or {TooLong}, where neither run crosses L"),
     ("docs/THEOREMS.md", "With status {Done}, {Refused} or {TooLong} the sinks got all due bytes"),
     ("docs/THEOREMS.md", "With status {ReadFault}, take the bytes"),
     ("docs/THEOREMS.md", "Status {NoMemory}, out of memory, may come at any time"),

@@ -15,6 +15,8 @@ pub mod OpenLemmas
 pub mod ScriptSteps
 pub mod UpgradeLemmas
 pub mod UpgradeLaws
+pub mod LeastLemmas
+pub mod LeastLaws
 pub mod ReadableLemmas
 pub mod CallLemmas
 pub mod ToolLemmas

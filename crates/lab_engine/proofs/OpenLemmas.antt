@@ -16,6 +16,7 @@ use Rattle.lab_engine.specs.declared.reading.ReadWorld.{ReadWorld}
 use Rattle.lab_engine.specs.declared.reading.ReadWorld.TheVariants as world
 use Rattle.lab_engine.specs.Counts.{Counts, CountsOnce, counted_by}
 use Rattle.lab_engine.specs.Input.{Begun, Input, begun_in, input_from, input_in}
+use Rattle.lab_engine.specs.LeastInput.{least_at, least_by, least_in}
 use Rattle.lab_engine.specs.UpgradeInput.{upgrade_in, upgrade_by, upgrade_at}
 use Rattle.lab_engine.specs.Opening.{OpensInput}
 use Rattle.lab_engine.specs.Reading.{ReadsWorld, Takes, begun_at, left_of, script_at, script_left}
@@ -44,6 +45,10 @@ module _ (due : Format) (lines0 : LinesState) (starts : lines0 ≡ record { line
   unfolding upgrade_in
   kept_starts text b is = ap upgrade_by (begun_starts text ∙ is)
 
+  least_starts : (text : List ℕ) (b : Begun) → begun_at (at.Format due) lines0 text ≡ b → least_in due text ≡ least_by b
+  unfolding least_in
+  least_starts text b is = ap least_by (begun_starts text ∙ is)
+
   -- a world was accepted, and its script is left
   input_left : (w : WorldText) (more : List ℕ) → input_from (script_left w lines more) ≡ record { accepted = Some w; script = script_at w.policy lines more }
   unfolding script_left script_at
@@ -52,6 +57,10 @@ module _ (due : Format) (lines0 : LinesState) (starts : lines0 ≡ record { line
   kept_left : (w : WorldText) (more : List ℕ) → upgrade_by (script_left w lines more) ≡ record { accepted = Some w; script = upgrade_at w.policy lines more }
   unfolding script_left upgrade_at
   kept_left w more = refl
+
+  least_left : (w : WorldText) (more : List ℕ) → least_by (script_left w lines more) ≡ record { accepted = Some w; script = least_at w.policy lines more }
+  unfolding script_left least_at
+  least_left w more = refl
 
   taken_within : (taken : List ℕ) → Takes lines0 lines left left' taken → length taken + may_take lines ≡ MAX_INPUT + 1
   taken_within taken takes = let most : may_take lines0 ≡ MAX_INPUT + 1 = ap may_take starts in omega (arith, takes.within, most)
@@ -79,8 +88,10 @@ module _ (due : Format) (lines0 : LinesState) (starts : lines0 ≡ record { line
           took = accepted.takes.took;
           few = few_taken accepted.taken accepted.takes;
           shows = record {
+            begun = λ more. begun_starts (accepted.taken ++ more) ∙ accepted.shows.says more;
             says = λ more. input_starts (accepted.taken ++ more) _ (accepted.shows.says more) ∙ input_left w more;
             keeps = λ more. kept_starts (accepted.taken ++ more) _ (accepted.shows.says more) ∙ kept_left w more;
+            least = λ more. least_starts (accepted.taken ++ more) _ (accepted.shows.says more) ∙ least_left w more;
             more = accepted.shows.more;
             small = omega (arith, accepted.shows.fewer, most);
             within = taken_within accepted.taken accepted.takes;
@@ -97,6 +108,7 @@ module _ (due : Format) (lines0 : LinesState) (starts : lines0 ≡ record { line
           shows = record {
             says = input_starts (ended.taken ++ left_of left') _ ended.shows.says;
             keeps = kept_starts (ended.taken ++ left_of left') _ ended.shows.says;
+            least = least_starts (ended.taken ++ left_of left') _ ended.shows.says;
             to_the_end = ended.shows.to_the_end;
           };
         }

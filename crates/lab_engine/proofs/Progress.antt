@@ -35,7 +35,7 @@ use Rattle.lab_engine.proofs.ToolLemmas.{top_after}
 
 -- ---- calls after others
 
-state_append : (s : State) (is more : List ScriptItem) → state_after_run s (is ++ more) ≡ state_after_run (state_after_run s is) more
+pub state_append : (s : State) (is more : List ScriptItem) → state_after_run s (is ++ more) ≡ state_after_run (state_after_run s is) more
 state_append s [] more = refl
 state_append s (i ∷ is) more = state_append (step s i.who i.call).state is more
 

@@ -43,6 +43,7 @@ use Rattle.lab_engine.specs.declared.reading.WorldLine.{WorldLine}
 use Rattle.lab_engine.specs.declared.reading.WorldLine.TheVariants as world_line_is
 use Rattle.lab_engine.specs.Counts.{CountsOnce, counted_by, counts, fault_of_read}
 use Rattle.lab_engine.specs.Input.{Begun, NoWorld, Script, after_line, begun_by, ends_at, input_from, last_piece, script, script_from}
+use Rattle.lab_engine.specs.LeastInput.{after_least, least_at, least_from}
 use Rattle.lab_engine.specs.UpgradeInput.{UpgradeScript, after_kept, fault_in, kept_script, upgrade_at, upgrade_from}
 use Rattle.lab_engine.specs.Reading.{Accepts, BeginsWith, EndsScript, EndsWorld, Follows, GoesOn, ReadsLine, Takes, begun_at, left_of, script_at, script_left}
 use Rattle.lab_engine.proofs.LeftLemmas.{left_failed, left_line, left_long, left_part, left_past, read_left}
@@ -60,7 +61,7 @@ take_none (suc n) = refl
 
 -- ---- one step of each definition
 
--- what is left is read as the rest of a world, as the rest of a script, or as that of an old script
+-- what is left is read as the rest of a world, as the rest of a script, as that of an old script, or as that of one whose capabilities are narrowed
 abbrev world_by : Expecting → Bool → ℕ → List (List ℕ) → Begun
 world_by e over n ps = begun_by over (read_lines n e ps)
 
@@ -69,6 +70,9 @@ script_by policy over n ps = script_from over policy n ps
 
 abbrev kept_by : PolicyNames → Bool → ℕ → List (List ℕ) → UpgradeScript
 kept_by policy over n ps = upgrade_from over policy n ps
+
+abbrev least_script : PolicyNames → Bool → ℕ → List (List ℕ) → Script
+least_script policy over n ps = least_from over policy n ps
 
 world_last : (e : Expecting) (over : Bool) (n : ℕ) (last : List ℕ) → world_by e over n (last ∷ []) ≡ NoWorld (ends_at over n part.World fault.Syntax last)
 unfolding read_lines
@@ -101,6 +105,16 @@ kept_more over policy n line ps p qs is =
     ap (λ (r : List (List ℕ)). upgrade_from over policy n (line ∷ r)) is
     ∙ sym (ap (λ (r : List (List ℕ)). after_kept (fault_in (script_lines.parse_line policy line)) n line (upgrade_from over policy (n + 1) r)) is)
 
+least_last : (policy : PolicyNames) (over : Bool) (n : ℕ) (last : List ℕ) → least_script policy over n (last ∷ []) ≡ script [] (last_piece over n last)
+unfolding least_from
+least_last policy over n last = refl
+
+least_more : (over : Bool) (policy : PolicyNames) (n : ℕ) (line : List ℕ) (ps : List (List ℕ)) (p : List ℕ) (qs : List (List ℕ)) → ps ≡ p ∷ qs
+    → least_from over policy n (line ∷ ps) ≡ after_least (script_lines.parse_line policy line) n (least_from over policy (n + 1) ps)
+unfolding least_from
+least_more over policy n line ps p qs is =
+    ap (λ (r : List (List ℕ)). least_from over policy n (line ∷ r)) is ∙ sym (ap (λ (r : List (List ℕ)). after_least (script_lines.parse_line policy line) n (least_from over policy (n + 1) r)) is)
+
 -- a line that is too long is refused
 world_long : (e : Expecting) (line : List ℕ) → MAX_LINE < length line → parse_line e line ≡ Refuses fault.Syntax
 unfolding parse_line
@@ -110,10 +124,11 @@ script_long : (policy : PolicyNames) (line : List ℕ) → MAX_LINE < length lin
 unfolding script_lines.parse_line
 script_long policy line long = ap (λ b. cond b (Err error.TooLong) (cond (is_blank line) (Ok line_is.Blank) (script_lines.parse_words policy (words_of line)))) (lt-ltb MAX_LINE (length line) long)
 
--- a script ends, read in both ways
+-- a script ends, read in each way
 record Ends (policy : PolicyNames) (before : LinesState) (bytes : List ℕ) (ending : InputEnd) : Type 0 where
   says : script_at policy before bytes ≡ script [] ending
   keeps : upgrade_at policy before bytes ≡ kept_script [] ending
+  least : least_at policy before bytes ≡ script [] ending
 
 -- ---- a step of a reader, which took these bytes
 module _ (before now : LinesState) (got : List ℕ) (number : now.number ≡ before.number + 1) where
@@ -181,10 +196,19 @@ module _ (before now : LinesState) (got : List ℕ) (number : now.number ≡ bef
         ∙ kept_more (over more) policy now.number now.line (left more) first.0 first.1 first.2
         ∙ ap (λ (r : Result Line LineError). after_kept (fault_in r) now.number now.line (upgrade_from (over more) policy (now.number + 1) (left more))) is
 
+    least_line : (policy : PolicyNames) (parsed : Result Line LineError) → script_lines.parse_line policy now.line ≡ parsed → (more : List ℕ) → least_at policy before (got ++ more) ≡ after_least parsed now.number (least_at policy now more)
+    unfolding least_at
+    least_line policy parsed is more =
+        let first = pieces_first 10 (take now.room (now.held ++ more)) in
+        left_line (least_script policy) before now got number gives more
+        ∙ least_more (over more) policy now.number now.line (left more) first.0 first.1 first.2
+        ∙ ap (λ (r : Result Line LineError). after_least r now.number (least_from (over more) policy (now.number + 1) (left more))) is
+
     pub line_begins : (policy : PolicyNames) (l : Line) → script_lines.parse_line policy now.line ≡ Ok l → MayBePlayed (top_of policy) l → BeginsWith policy before now got l
     line_begins policy l is calls = record {
       says = λ rest. script_line policy (Ok l) is rest;
       keeps = λ rest. kept_line policy (Ok l) is rest;
+      least = λ rest. least_line policy (Ok l) is rest;
       number = omega (arith, number);
       calls = calls;
       more = gives.more;
@@ -196,7 +220,12 @@ module _ (before now : LinesState) (got : List ℕ) (number : now.number ≡ bef
       by_word why is ends = subst (λ (w : LineFault). EndsScript policy before left got (Refused now.number part.Script w)) (sym is) ends
 
       refused_line : (e : LineError) → script_lines.parse_line policy now.line ≡ Err e → EndsScript policy before left got (Refused now.number part.Script (fault_of e))
-      refused_line e is = record { says = script_line policy (Err e) is (left_of left); keeps = kept_line policy (Err e) is (left_of left); to_the_end = λ h. absurd (cc) }
+      refused_line e is = record {
+        says = script_line policy (Err e) is (left_of left);
+        keeps = kept_line policy (Err e) is (left_of left);
+        least = least_line policy (Err e) is (left_of left);
+        to_the_end = λ h. absurd (cc);
+      }
 
       pub line_refused_by : (e : LineError) (why : LineFault) → IsFaultOf e why → IsCause (script_lines.parse_line policy now.line) e → EndsScript policy before left got (Refused now.number part.Script why)
       line_refused_by (error.NoMemory m) why word is = absurd word
@@ -211,11 +240,12 @@ module _ (before now : LinesState) (got : List ℕ) (number : now.number ≡ bef
 
   -- the last piece of a script is left
   last_left : (policy : PolicyNames) (bytes : List ℕ) (over : Bool) (last : List ℕ) → read_left (script_by policy) before bytes ≡ script_from over policy now.number (last ∷ [])
-      → read_left (kept_by policy) before bytes ≡ upgrade_from over policy now.number (last ∷ []) → (ending : InputEnd) → last_piece over now.number last ≡ ending → Ends policy before bytes ending
-  unfolding script_at upgrade_at
-  last_left policy bytes over last is kept_is ending ends = record {
+      → read_left (kept_by policy) before bytes ≡ upgrade_from over policy now.number (last ∷ []) → read_left (least_script policy) before bytes ≡ least_from over policy now.number (last ∷ []) → (ending : InputEnd) → last_piece over now.number last ≡ ending → Ends policy before bytes ending
+  unfolding script_at upgrade_at least_at
+  last_left policy bytes over last is kept_is least_is ending ends = record {
     says = is ∙ script_last policy over now.number last ∙ ap (script []) ends;
     keeps = kept_is ∙ kept_last policy over now.number last ∙ ap (kept_script []) ends;
+    least = least_is ∙ least_last policy over now.number last ∙ ap (script []) ends;
   }
 
   module _ (holds : HoldsPart text before.room) (le : length text ≤ before.room) (left : Option (List ℕ)) (end : IsAtEnd left) where
@@ -226,12 +256,13 @@ module _ (before now : LinesState) (got : List ℕ) (number : now.number ≡ bef
 
     script_ended : (policy : PolicyNames) (ending : InputEnd) → last_piece false now.number text ≡ ending → Ends policy before (got ++ left_of left) ending
     script_ended policy = last_left policy (got ++ left_of left) false text (left_part (script_by policy) before now got number holds le left end) (left_part (kept_by policy) before now got number holds le left end)
+        (left_part (least_script policy) before now got number holds le left end)
 
     pub script_unended : (policy : PolicyNames) → 0 < length text → EndsScript policy before left got (Refused now.number part.Script fault.Syntax)
     script_unended policy some =
         let short : length text ≤ MAX_LINE = subst (λ (t : List ℕ). length t ≤ MAX_LINE) (take_all before.room text le) holds.short in
         let ends = script_ended policy _ (unended_piece text some short) in
-        record { says = ends.says; keeps = ends.keeps; to_the_end = λ h. absurd (cc) }
+        record { says = ends.says; keeps = ends.keeps; least = ends.least; to_the_end = λ h. absurd (cc) }
       where
         unended_piece : (t : List ℕ) → 0 < length t → length t ≤ MAX_LINE → last_piece false now.number t ≡ Refused now.number part.Script fault.Syntax
         unended_piece [] some short = absurd (omega (arith, some))
@@ -251,7 +282,7 @@ module _ (before now : LinesState) (got : List ℕ) (number : now.number ≡ bef
     pub script_ends : (policy : PolicyNames) → EndsScript policy before left got Whole
     script_ends policy =
         let ends = script_ended (empty_part none) le left end policy Whole (ap (λ (t : List ℕ). last_piece false now.number t) none) in
-        record { says = ends.says; keeps = ends.keeps; to_the_end = λ h. end }
+        record { says = ends.says; keeps = ends.keeps; least = ends.least; to_the_end = λ h. end }
 
   module _ (holds : HoldsPart text before.room) (past : before.room < length text) (left : Option (List ℕ)) where
     cut : (why : InputEnd) (last : List ℕ) → length last ≤ MAX_LINE → cond (nat_lt MAX_LINE (length last)) why TooMuch ≡ TooMuch
@@ -267,8 +298,8 @@ module _ (before now : LinesState) (got : List ℕ) (number : now.number ≡ bef
     pub script_too_much : (policy : PolicyNames) → EndsScript policy before left got TooMuch
     script_too_much policy =
         let ends = last_left policy (got ++ left_of left) true (take before.room text) (left_past (script_by policy) before now got number holds past left) (left_past (kept_by policy) before now got number holds past left)
-        TooMuch (cut _ (take before.room text) holds.short) in
-        record { says = ends.says; keeps = ends.keeps; to_the_end = λ h. absurd (cc) }
+        (left_past (least_script policy) before now got number holds past left) TooMuch (cut _ (take before.room text) holds.short) in
+        record { says = ends.says; keeps = ends.keeps; least = ends.least; to_the_end = λ h. absurd (cc) }
 
   -- a line that is too long is refused, wherever it ends
   module _ (long : HoldsLongLine text before.room) (left : Option (List ℕ)) where
@@ -294,6 +325,11 @@ module _ (before now : LinesState) (got : List ℕ) (number : now.number ≡ bef
     kept_by_pieces over policy line (p ∷ ps) long = kept_more over policy now.number line (p ∷ ps) p ps refl
         ∙ ap (λ (r : Result Line LineError). after_kept (fault_in r) now.number line (upgrade_from over policy (now.number + 1) (p ∷ ps))) (script_long policy line long)
 
+    least_by_pieces : (over : Bool) (policy : PolicyNames) (line : List ℕ) (ps : List (List ℕ)) → MAX_LINE < length line → least_from over policy now.number (line ∷ ps) ≡ script [] (Refused now.number part.Script fault.TooLong)
+    least_by_pieces over policy line [] long = least_last policy over now.number line ∙ ap (script []) (long_piece over line long)
+    least_by_pieces over policy line (p ∷ ps) long = least_more over policy now.number line (p ∷ ps) p ps refl
+        ∙ ap (λ (r : Result Line LineError). after_least r now.number (least_from over policy (now.number + 1) (p ∷ ps))) (script_long policy line long)
+
     pub world_long_line : (e : Expecting) → EndsWorld e before left got (Refused now.number part.World fault.Syntax)
     unfolding begun_at
     world_long_line e =
@@ -301,13 +337,15 @@ module _ (before now : LinesState) (got : List ℕ) (number : now.number ≡ bef
         record { says = first.4 ∙ world_by_pieces first.0 e first.1 first.2 first.3; to_the_end = λ h. absurd (cc) }
 
     pub script_long_line : (policy : PolicyNames) → EndsScript policy before left got (Refused now.number part.Script fault.TooLong)
-    unfolding script_at upgrade_at
+    unfolding script_at upgrade_at least_at
     script_long_line policy =
         let first = left_long (script_by policy) before now got number long left in
         let old = left_long (kept_by policy) before now got number long left in
+        let least = left_long (least_script policy) before now got number long left in
         record {
           says = first.4 ∙ script_by_pieces first.0 policy first.1 first.2 first.3;
           keeps = old.4 ∙ kept_by_pieces old.0 policy old.1 old.2 old.3;
+          least = least.4 ∙ least_by_pieces least.0 policy least.1 least.2 least.3;
           to_the_end = λ h. absurd (cc);
         }
 

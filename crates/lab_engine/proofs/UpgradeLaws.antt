@@ -69,26 +69,26 @@ one_piece t l e = sym (join_with_byte-slice_split 10 t) ∙ ap (join_with_byte 1
 -- ---- the world
 
 -- a line before others
-step : (n : ℕ) (e : Expecting) (line p : List ℕ) (ps : List (List ℕ)) → read_lines n e (line ∷ p ∷ ps) ≡ after (parse_line e line) n (p ∷ ps) (λ next. read_lines (n + 1) next (p ∷ ps))
+pub step : (n : ℕ) (e : Expecting) (line p : List ℕ) (ps : List (List ℕ)) → read_lines n e (line ∷ p ∷ ps) ≡ after (parse_line e line) n (p ∷ ps) (λ next. read_lines (n + 1) next (p ∷ ps))
 unfolding read_lines
 step n e line p ps = refl
 
-ended : (n : ℕ) (e : Expecting) (last : List ℕ) → read_lines n e (last ∷ []) ≡ Ended n last
+pub ended : (n : ℕ) (e : Expecting) (last : List ℕ) → read_lines n e (last ∷ []) ≡ Ended n last
 unfolding read_lines
 ended n e last = refl
 
-nothing : (n : ℕ) (e : Expecting) → read_lines n e [] ≡ Ended n []
+pub nothing : (n : ℕ) (e : Expecting) → read_lines n e [] ≡ Ended n []
 unfolding read_lines
 nothing n e = refl
 
 -- what stands behind the line `script` of a text
-record Behind (t : List ℕ) (ps : List (List ℕ)) : Type 0 where
-  head : List ℕ
-  rest : List ℕ
-  text_is : t ≡ head ++ rest
-  pieces_are : ps ≡ pieces 10 rest
+pub record Behind (t : List ℕ) (ps : List (List ℕ)) : Type 0 where
+  pub head : List ℕ
+  pub rest : List ℕ
+  pub text_is : t ≡ head ++ rest
+  pub pieces_are : ps ≡ pieces 10 rest
 
-behind : (qs : List (List ℕ)) (t : List ℕ) (n : ℕ) (e : Expecting) (w : WorldText) (m : ℕ) (ps : List (List ℕ)) → pieces 10 t ≡ qs → read_lines n e qs ≡ AcceptedWorld w m ps → Behind t ps
+pub behind : (qs : List (List ℕ)) (t : List ℕ) (n : ℕ) (e : Expecting) (w : WorldText) (m : ℕ) (ps : List (List ℕ)) → pieces 10 t ≡ qs → read_lines n e qs ≡ AcceptedWorld w m ps → Behind t ps
 behind [] t n e w m ps is read = let no = sym (nothing n e) ∙ read in absurd (cc)
 behind (l ∷ []) t n e w m ps is read = let no = sym (ended n e l) ∙ read in absurd (cc)
 behind (l ∷ p ∷ qs) t n e w m ps is read =
@@ -111,7 +111,7 @@ behind (l ∷ p ∷ qs) t n e w m ps is read =
         record { head = l ++ 10 ∷ []; rest = c.rest; text_is = text_is; pieces_are = sym same ∙ sym c.pieces_are }
 
 -- a text that is a world with no script after it is read as that world, whatever comes after it
-with_rest : (qs : List (List ℕ)) (t : List ℕ) (n : ℕ) (e : Expecting) (w : WorldText) (m : ℕ) (rest : List ℕ) → pieces 10 t ≡ qs → read_lines n e qs ≡ AcceptedWorld w m ([] ∷ [])
+pub with_rest : (qs : List (List ℕ)) (t : List ℕ) (n : ℕ) (e : Expecting) (w : WorldText) (m : ℕ) (rest : List ℕ) → pieces 10 t ≡ qs → read_lines n e qs ≡ AcceptedWorld w m ([] ∷ [])
     → read_lines n e (pieces 10 (t ++ rest)) ≡ AcceptedWorld w m (pieces 10 rest)
 with_rest [] t n e w m rest is read = let no = sym (nothing n e) ∙ read in absurd (cc)
 with_rest (l ∷ []) t n e w m rest is read = let no = sym (ended n e l) ∙ read in absurd (cc)
@@ -139,7 +139,7 @@ with_rest (l ∷ p ∷ qs) t n e w m rest is read =
 
 -- ---- the script
 
-not_whole : (v : Bool) (n : ℕ) → cond v (Refused n part.Script fault.TooLong) TooMuch ≡ Whole → ⊥
+pub not_whole : (v : Bool) (n : ℕ) → cond v (Refused n part.Script fault.TooLong) TooMuch ≡ Whole → ⊥
 not_whole true n e = cc
 not_whole false n e = cc
 
@@ -179,7 +179,7 @@ kept policy over n p (q ∷ ps) e = by_parsed (λ h. kept policy over (n + 1) q 
 -- ---- the input
 
 -- an input that ends before its world does is not whole
-no_world_whole : (over : Bool) (r : Reading) (ending : InputEnd) → begun_by over r ≡ NoWorld ending → ending ≡ Whole → ⊥
+pub no_world_whole : (over : Bool) (r : Reading) (ending : InputEnd) → begun_by over r ≡ NoWorld ending → ending ≡ Whole → ⊥
 no_world_whole over (AcceptedWorld w n lines) ending is whole = absurd (cc)
 no_world_whole over (Stopped n why) ending is whole = let no : NoWorld (Refused n part.World why) ≡ NoWorld Whole = is ∙ ap NoWorld whole in absurd (cc)
 no_world_whole false (Ended n last) ending is whole = let no : NoWorld (Refused n part.World fault.Syntax) ≡ NoWorld Whole = is ∙ ap NoWorld whole in absurd (cc)
@@ -190,7 +190,7 @@ no_world_whole true (Ended n last) ending is whole = by_length (nat_lt MAX_LINE 
     by_length false e = cc
 
 -- a script of pieces has one
-some_pieces : (t : List ℕ) (ps : List (List ℕ)) → ps ≡ pieces 10 t → (P : List (List ℕ) → Type 0) → ((q : List ℕ) (qs : List (List ℕ)) → P (q ∷ qs)) → P ps
+pub some_pieces : (t : List ℕ) (ps : List (List ℕ)) → ps ≡ pieces 10 t → (P : List (List ℕ) → Type 0) → ((q : List ℕ) (qs : List (List ℕ)) → P (q ∷ qs)) → P ps
 some_pieces t ps is P f = let first = pieces_first 10 t in subst P (sym (is ∙ first.2)) (f first.0 first.1)
 
 -- what is read again: the text of a world, and a script after it
@@ -203,7 +203,7 @@ module _ (w : WorldText) (back : ReadsBack w) (rest : List ℕ) (short : HasShor
       ∙ ap (λ (t : List ℕ). input_from (begun_by false (read_text Two t))) (take_all MAX_INPUT out few)
       ∙ ap (λ (r : Reading). input_from (begun_by false r)) (with_rest _ (text_of_world w) 1 (at.Format Two) w (next_number w) rest refl (back short))
 
-has_world : (v : Bool) (r : Reading) (w : WorldText) (over : Bool) (n : ℕ) (lines : List (List ℕ)) → begun_by v r ≡ HasWorld w over n lines → (r ≡ AcceptedWorld w n lines) × (v ≡ over)
+pub has_world : (v : Bool) (r : Reading) (w : WorldText) (over : Bool) (n : ℕ) (lines : List (List ℕ)) → begun_by v r ≡ HasWorld w over n lines → (r ≡ AcceptedWorld w n lines) × (v ≡ over)
 has_world v (AcceptedWorld u k ls) w over n lines is = (cc, cc)
 has_world v (Stopped k why) w over n lines is = absurd (cc)
 has_world v (Ended k last) w over n lines is = absurd (cc)

@@ -7,6 +7,7 @@ pub mod Reporter
 pub mod Counts
 pub mod Readable
 pub mod UpgradeInput
+pub mod LeastInput
 pub mod Reading
 pub mod Handling
 pub mod Opening
@@ -15,5 +16,6 @@ pub mod Player
 pub mod Checking
 pub mod Counting
 pub mod Upgrading
+pub mod Least
 pub mod Viewing
 pub mod Generated

@@ -12,15 +12,18 @@ use Rattle.lab_engine.specs.declared.ending.InputEnd.TheVariants.{Whole}
 use Rattle.lab_engine.specs.declared.opening.Opened.{Opened}
 use Rattle.lab_engine.specs.declared.opening.Opened.TheVariants as opened
 use Rattle.lab_engine.specs.declared.opening.OpenedWorld.{OpenedWorld}
-use Rattle.lab_engine.specs.Input.{input_in, no_world}
+use Rattle.lab_engine.specs.Input.{begun_in, input_in, no_world}
+use Rattle.lab_engine.specs.LeastInput.{least_at, least_in}
 use Rattle.lab_engine.specs.UpgradeInput.{upgrade_in, kept_script, upgrade_at}
-use Rattle.lab_engine.specs.Reading.{left_of, script_at}
+use Rattle.lab_engine.specs.Reading.{left_of, script_at, script_left}
 
 -- a world was accepted: the bytes that were taken, with whatever more follows, are an input that has this world, and whose script is what is left at the reader,
 -- which takes no more than the limit and one byte in all
 pub record OpensWorld (due : Format) (taken : List ℕ) (o : OpenedWorld) : Type 0 where
+  pub begun : (more : List ℕ) → begun_in due (taken ++ more) ≡ script_left o.read o.lines more
   pub says : (more : List ℕ) → input_in due (taken ++ more) ≡ record { accepted = Some o.read; script = script_at o.read.policy o.lines more }
   pub keeps : (more : List ℕ) → upgrade_in due (taken ++ more) ≡ record { accepted = Some o.read; script = upgrade_at o.read.policy o.lines more }
+  pub least : (more : List ℕ) → least_in due (taken ++ more) ≡ record { accepted = Some o.read; script = least_at o.read.policy o.lines more }
   pub more : o.lines.more ≡ true
   pub small : o.lines.room ≤ 2 ^ 24
   pub within : length taken + may_take o.lines ≡ MAX_INPUT + 1
@@ -29,6 +32,7 @@ pub record OpensWorld (due : Format) (taken : List ℕ) (o : OpenedWorld) : Type
 pub record EndsInput (due : Format) (left : Option (List ℕ)) (taken : List ℕ) (ending : InputEnd) : Type 0 where
   pub says : input_in due (taken ++ left_of left) ≡ no_world ending
   pub keeps : upgrade_in due (taken ++ left_of left) ≡ record { accepted = None; script = kept_script [] ending }
+  pub least : least_in due (taken ++ left_of left) ≡ no_world ending
   pub to_the_end : ending ≡ Whole → IsAtEnd left
 
 -- what the input is

@@ -22,6 +22,7 @@ use Rattle.lab_engine.specs.declared.reading.WorldLine.TheVariants as world_line
 use Rattle.lab_engine.specs.declared.reading.NextLine.{NextLine}
 use Rattle.lab_engine.specs.declared.reading.NextLine.TheVariants as next
 use Rattle.lab_engine.specs.Input.{Begun, HasWorld, NoWorld, Script, begun_by, input_from, items_in, script, script_from}
+use Rattle.lab_engine.specs.LeastInput.{after_least, least_at}
 use Rattle.lab_engine.specs.UpgradeInput.{after_kept, fault_in, kept_script, upgrade_at}
 
 -- ---- what is left at a reader, where these bytes come after those that it holds
@@ -97,10 +98,11 @@ pub record ReadsWorld (due : Format) (result : Result ReadWorld Fault) (before n
 -- ---- the script
 
 -- a script begins with a line, whose calls may be played, and goes on with what is left; the line has more bytes than calls;
--- an upgrade refuses it or keeps it
+-- an upgrade refuses it or keeps it, and `least` refuses it or plays it
 pub record BeginsWith (policy : PolicyNames) (before now : LinesState) (taken : List ℕ) (line : Line) : Type 0 where
   pub says : (more : List ℕ) → script_at policy before (taken ++ more) ≡ script (items_in line ++ (script_at policy now more).items) (script_at policy now more).ending
   pub keeps : (more : List ℕ) → upgrade_at policy before (taken ++ more) ≡ after_kept (fault_in (Ok line)) now.number now.line (upgrade_at policy now more)
+  pub least : (more : List ℕ) → least_at policy before (taken ++ more) ≡ after_least (Ok line) now.number (least_at policy now more)
   pub number : 0 < now.number
   pub calls : MayBePlayed (top_of policy) line
   pub more : now.more ≡ true
@@ -110,6 +112,7 @@ pub record BeginsWith (policy : PolicyNames) (before now : LinesState) (taken : 
 pub record EndsScript (policy : PolicyNames) (before : LinesState) (left : Option (List ℕ)) (taken : List ℕ) (ending : InputEnd) : Type 0 where
   pub says : script_at policy before (taken ++ left_of left) ≡ script [] ending
   pub keeps : upgrade_at policy before (taken ++ left_of left) ≡ kept_script [] ending
+  pub least : least_at policy before (taken ++ left_of left) ≡ script [] ending
   pub to_the_end : ending ≡ Whole → IsAtEnd left
 
 -- what is next in a script

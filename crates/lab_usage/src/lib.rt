@@ -21,6 +21,8 @@ const DETAILS: &str = "\
 Commands:
   play FILE   plays the world and the script of standard input: the reply to each call goes to
               standard output, and its records go to FILE
+  sched FILE  plays the world and the programs of standard input, each process by its own, in turns
+              by label; the replies go to standard output, and the records to FILE
   view LABEL  plays them, and writes to standard output what LABEL sees of the replies
   check       reads them, plays nothing, and writes to standard output how many objects,
               processes and calls they have
@@ -32,6 +34,9 @@ Commands:
   upgrade     reads an input of the old format, whose first line is 'world 1' and which play, view
               and check refuse with old_format, and writes it to standard output in the format of
               today, whose first line is 'world 2'
+  least       plays the world and the script of standard input, and writes to standard output the
+              world without the capabilities that the script never needed, after a line that names
+              them
   select SPEC reads a trail, and writes the records that SPEC picks to standard output, a line of
               JSON for each; SPEC is all, or some of pid=PID, label=LABEL, event=WORD and cap=NAME
               with ; between them

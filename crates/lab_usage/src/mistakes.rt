@@ -20,13 +20,20 @@ const NOT_EMPTY: &str = "is a word that is not empty and does not begin with -";
 
 const LINES: &str = "is a number from 1 to 100000";
 
-static COMMANDS: [CommandHelp; 8] = [
+static COMMANDS: [CommandHelp; 10] = [
     CommandHelp {
         word: "play",
         usage: "labsys play FILE < WORLD",
         argument: Some("FILE, where the trail goes"),
         form: NOT_EMPTY,
         about: "plays WORLD; the replies go to standard output, and the trail to FILE",
+    },
+    CommandHelp {
+        word: "sched",
+        usage: "labsys sched FILE < PROGRAMS",
+        argument: Some("FILE, where the trail goes"),
+        form: NOT_EMPTY,
+        about: "plays a world by the programs of its processes; the trail goes to FILE",
     },
     CommandHelp {
         word: "view",
@@ -62,6 +69,13 @@ static COMMANDS: [CommandHelp; 8] = [
         argument: None,
         form: "",
         about: "writes OLD, an input of the old format, in the format of today",
+    },
+    CommandHelp {
+        word: "least",
+        usage: "labsys least < WORLD",
+        argument: None,
+        form: "",
+        about: "plays WORLD, and writes it without the capabilities that its script never needed",
     },
     CommandHelp {
         word: "select",

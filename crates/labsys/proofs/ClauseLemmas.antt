@@ -11,7 +11,7 @@ use Rattle.kern_model.specs.Prefixes.{IsPrefix}
 use Rattle.kern_model.specs.Lineage.{OnlyDrops, GrowsByExec}
 use Rattle.iso_laws.proofs.Laws.{drops_by_records, growth_by_records}
 use Rattle.labsys.specs.declared.command.Command.{Command}
-use Rattle.labsys.specs.declared.command.Command.TheVariants.{Play, Check, Gen, Drill, View, Upgrade, Select, Lineage}
+use Rattle.labsys.specs.declared.command.Command.TheVariants.{Play, Sched, Check, Gen, Drill, View, Upgrade, Least, Select, Lineage}
 use Rattle.lab_engine.specs.declared.ending.InputEnd.{InputEnd}
 use Rattle.lab_engine.specs.declared.ending.InputEnd.TheVariants.{Whole, Refused as IsRefused, TooMuch}
 use Rattle.lab_engine.specs.declared.ending.Fault.{Fault}
@@ -58,7 +58,7 @@ held_after None before bs h = absurd h
 held_after (Some ys) before bs h = ap (λ (z : List ℕ). Some z) h
 
 -- what was taken and what was sent, as the ends report it
-moved : (l l' : Option (List ℕ)) (e e' : Ends) (taken : List ℕ) → Consumes l l' taken → (sent : List Sent) → Sends sent e e'
+pub moved : (l l' : Option (List ℕ)) (e e' : Ends) (taken : List ℕ) → Consumes l l' taken → (sent : List Sent) → Sends sent e e'
     → (P : List ℕ → List ℕ → List ℕ → Type 0) (text before above : List ℕ) → l ≡ Some text → e.out.held ≡ Some before → e.trail.held ≡ Some above → P text (out_of sent) (trail_of sent)
     → Moved text before above (reports l' e'.out.held e'.trail.held) P
 moved l l' e e' taken took sent sends P text before above el eo et p =
@@ -75,12 +75,12 @@ moved l l' e e' taken took sent sends P text before above el eo et p =
       holds = p;
     }
 
-reported_gives : (old now : Reports) (P Q : List ℕ → List ℕ → List ℕ → Type 0) → ((text out trail : List ℕ) → P text out trail → Q text out trail) → WhereReported old now P → WhereReported old now Q
+pub reported_gives : (old now : Reports) (P Q : List ℕ → List ℕ → List ℕ → Type 0) → ((text out trail : List ℕ) → P text out trail → Q text out trail) → WhereReported old now P → WhereReported old now Q
 reported_gives old now P Q f w text before above el eo et =
     let m = w text before above el eo et in
     record { taken = m.taken; rest = m.rest; out = m.out; trail = m.trail; text_is = m.text_is; left_is = m.left_is; out_is = m.out_is; trail_is = m.trail_is; holds = f text m.out m.trail m.holds }
 
-whole_gives : (s : Status) (P Q : Type 0) → (P → Q) → OnWhole s P → OnWhole s Q
+pub whole_gives : (s : Status) (P Q : Type 0) → (P → Q) → OnWhole s P → OnWhole s Q
 whole_gives Done P Q f p = f p
 whole_gives Refused P Q f p = f p
 whole_gives TooLong P Q f p = f p
@@ -145,16 +145,16 @@ module _ (s : Session) (sent rest : List Sent) (e : session_order s ≡ sent ++ 
   trail_is : head_text s ++ records_of (bytes_of s) ≡ trail_of sent ++ trail_of rest
   trail_is = sym (session_trail s) ∙ ap trail_of e ∙ trail_of-append sent rest
 
-  session_written : Written (bytes_of s) (out_of sent)
+  pub session_written : Written (bytes_of s) (out_of sent)
   session_written = written (bytes_of s) (tail_text s) (out_of sent) (out_of rest) out_is
 
-session_printed : (a : Accepted) (m : Script) (sent rest : List Sent) → session_order (session_of a m) ≡ sent ++ rest → Printed (session_of a m) (out_of sent) (trail_of sent)
+pub session_printed : (a : Accepted) (m : Script) (sent rest : List Sent) → session_order (session_of a m) ≡ sent ++ rest → Printed (session_of a m) (out_of sent) (trail_of sent)
 session_printed a m sent rest e = record {
   by_records = record { rest = out_of rest; whole_is = sym (out_reported a m) ∙ out_is (session_of a m) sent rest e };
   recorded = λ more. recorded (session_of a m) sent rest e more ∙ trail_reported (session_of a m);
 }
 
-session_dropped : (a : Accepted) (m : Script) (sent rest : List Sent) → session_order (session_of a m) ≡ sent ++ rest → Dropped (session_of a m) (trail_of sent)
+pub session_dropped : (a : Accepted) (m : Script) (sent rest : List Sent) → session_order (session_of a m) ≡ sent ++ rest → Dropped (session_of a m) (trail_of sent)
 session_dropped a m sent rest e = record {
   begins = record { rest = trail_of rest; whole_is = sym (trail_reported (session_of a m)) ∙ trail_is (session_of a m) sent rest e };
   drops = subst (OnlyDrops a.world.bound) (sym (all_numbered a m)) (drops_by_records a.world m.items);
@@ -193,17 +193,7 @@ only_trail (Err Write) is = absurd (cc)
 only_trail (Err Trail) is = refl
 only_trail (Err Memory) is = absurd (cc)
 
-only_play : (c : Command) → writes_trail c ≡ true → c ≡ Play
-only_play Play is = refl
-only_play Check is = absurd (cc)
-only_play (Gen n) is = absurd (cc)
-only_play (Drill n) is = absurd (cc)
-only_play (View word) is = absurd (cc)
-only_play Upgrade is = absurd (cc)
-only_play (Select word) is = absurd (cc)
-only_play Lineage is = absurd (cc)
-
-only_done : (r : Result InputEnd Fault) → status_of r ≡ Done → r ≡ Ok Whole
+pub only_done : (r : Result InputEnd Fault) → status_of r ≡ Done → r ≡ Ok Whole
 only_done (Ok Whole) is = refl
 only_done (Ok (IsRefused n part why)) is = absurd (cc)
 only_done (Ok TooMuch) is = absurd (cc)
@@ -229,7 +219,7 @@ module _ (c : Command) (r : Result InputEnd Fault) (l l' : Option (List ℕ)) (e
   all_due text el = ap (λ (z : List ℕ). due c z) (text_left l l' x.taken text el x.took)
 
   -- what holds of each prefix of the order holds of what was sent, where the ends report
-  where_sent : (P : List ℕ → List ℕ → List ℕ → Type 0) → ((text : List ℕ) (sent rest : List Sent) → (due c text).order ≡ sent ++ rest → P text (out_of sent) (trail_of sent)) → WhereReported old now P
+  pub where_sent : (P : List ℕ → List ℕ → List ℕ → Type 0) → ((text : List ℕ) (sent rest : List Sent) → (due c text).order ≡ sent ++ rest → P text (out_of sent) (trail_of sent)) → WhereReported old now P
   where_sent P f text before above el eo et =
       let p = prefix_of r all.order entry exit x.writes in
       moved l l' entry exit x.taken x.took p.sent p.sends P text before above el eo et
@@ -268,8 +258,8 @@ module _ (c : Command) (r : Result InputEnd Fault) (s : Status) (is : s ≡ stat
   pub run_read_fault : (r ≡ Err Read → reads_source c ≡ true) → IfSome o (λ command. s ≡ ReadFault → reads_source command ≡ true)
   run_read_fault reads = of_command o c (λ command. s ≡ ReadFault → reads_source command ≡ true) named (λ fault. reads (only_read r (sym is ∙ fault)))
 
-  pub run_trail_fault : (r ≡ Err Trail → writes_trail c ≡ true) → s ≡ TrailFault → o ≡ Some Play
-  run_trail_fault writes fault = named ∙ ap (λ (k : Command). Some k) (only_play c (writes (only_trail r (sym is ∙ fault))))
+  pub run_trail_fault : (r ≡ Err Trail → writes_trail c ≡ true) → IfSome o (λ command. s ≡ TrailFault → writes_trail command ≡ true)
+  run_trail_fault writes = of_command o c (λ command. s ≡ TrailFault → writes_trail command ≡ true) named (λ fault. writes (only_trail r (sym is ∙ fault)))
 
 part_of_nothing : (a b : List ℕ) → [] ≡ a ++ b → a ≡ []
 part_of_nothing [] b is = refl
@@ -308,9 +298,11 @@ did_beside c bytes is other r l l' e e' x =
 pub did_used : (c : Command) (r : Result InputEnd Fault) (l l' : Option (List ℕ)) (e e' : Ends) → CommandDid c r l l' e e'
     → CommandDid c r (if_used (reads_source c) l) (if_used (reads_source c) l') (ends_used c e) (ends_used c e')
 did_used Play r l l' e e' x = x
+did_used Sched r l l' e e' x = x
 did_used Check r l l' e e' x = did_beside Check _ (λ text. refl) (λ play. absurd (cc)) r l l' e e' x
 did_used (View word) r l l' e e' x = did_beside (View word) _ (λ text. refl) (λ play. absurd (cc)) r l l' e e' x
 did_used Upgrade r l l' e e' x = did_beside Upgrade _ (λ text. refl) (λ play. absurd (cc)) r l l' e e' x
+did_used Least r l l' e e' x = did_beside Least _ (λ text. refl) (λ play. absurd (cc)) r l l' e e' x
 did_used (Select word) r l l' e e' x = did_beside (Select word) _ (λ text. refl) (λ play. absurd (cc)) r l l' e e' x
 did_used Lineage r l l' e e' x = did_beside Lineage _ (λ text. refl) (λ play. absurd (cc)) r l l' e e' x
 did_used (Gen n) r l l' e e' x = record { taken = []; took = Consumes-nil (Some []); few = omega arith; writes = writes_out r _ e e' x.writes; status = x.status; to_the_end = λ reads. absurd (cc); by_line = λ play. absurd (cc) }

@@ -14,7 +14,7 @@ use Rattle.gen_world.specs.declared.generator.TheConstants.{MAX_LINES}
 use Rattle.lab_text.specs.Names.{same_bytes}
 use Rattle.lab_usage.specs.Words.{Given, given_by, given_words, is_argument}
 use Rattle.labsys.specs.declared.command.Command.{Command}
-use Rattle.labsys.specs.declared.command.Command.TheVariants.{Check, Play, Gen, Drill, View, Upgrade, Select, Lineage}
+use Rattle.labsys.specs.declared.command.Command.TheVariants.{Check, Play, Sched, Gen, Drill, View, Upgrade, Least, Select, Lineage}
 use Rattle.labsys.specs.Commands.{FitsCommand, command_alone, command_of, command_with, lines_of}
 
 lines_fit : (word : List ℕ) (o : Option ℕ) → lines_of word ≡ o → IfSome o (λ n. (1 ≤ n) × (n ≤ MAX_LINES))
@@ -29,20 +29,22 @@ by_lines false true None small = tt
 by_lines false true (Some n) small = small
 by_lines false false o small = tt
 
-by_tests : (argument : List ℕ) (plays views selects fits : Bool) (rest : Option Command) → IfSome rest FitsCommand
-    → IfSome (cond plays (keep_if fits Play) (cond views (keep_if fits (View argument)) (cond selects (keep_if fits (Select argument)) rest))) FitsCommand
-by_tests argument true views selects true rest others = tt
-by_tests argument true views selects false rest others = tt
-by_tests argument false true selects true rest others = tt
-by_tests argument false true selects false rest others = tt
-by_tests argument false false true true rest others = tt
-by_tests argument false false true false rest others = tt
-by_tests argument false false false fits rest others = others
+by_tests : (argument : List ℕ) (plays scheds views selects fits : Bool) (rest : Option Command) → IfSome rest FitsCommand
+    → IfSome (cond plays (keep_if fits Play) (cond scheds (keep_if fits Sched) (cond views (keep_if fits (View argument)) (cond selects (keep_if fits (Select argument)) rest)))) FitsCommand
+by_tests argument true scheds views selects true rest others = tt
+by_tests argument true scheds views selects false rest others = tt
+by_tests argument false true views selects true rest others = tt
+by_tests argument false true views selects false rest others = tt
+by_tests argument false false true selects true rest others = tt
+by_tests argument false false true selects false rest others = tt
+by_tests argument false false false true true rest others = tt
+by_tests argument false false false true false rest others = tt
+by_tests argument false false false false fits rest others = others
 
 -- a command with an argument can be performed
 command_fits : (word argument : List ℕ) (o : Option Command) → o ≡ command_with word argument → IfSome o FitsCommand
 command_fits word argument o is = subst (λ (x : Option Command). IfSome x FitsCommand) (sym is)
-    (by_tests argument (same_bytes word (codes "play")) (same_bytes word (codes "view")) (same_bytes word (codes "select")) (is_argument argument) _
+    (by_tests argument (same_bytes word (codes "play")) (same_bytes word (codes "sched")) (same_bytes word (codes "view")) (same_bytes word (codes "select")) (is_argument argument) _
     (by_lines (same_bytes word (codes "gen")) (same_bytes word (codes "drill")) (lines_of argument) (lines_fit argument (lines_of argument) refl)))
 
 -- ---- what the words give
@@ -56,11 +58,11 @@ other_word word known e f = go (same_bytes word known) refl
     go false same = refl
 
 alone_none : (word : List ℕ) → is_argument word ≡ false → command_alone word ≡ None
-alone_none word e = rw (other_word word (codes "check") e refl, other_word word (codes "upgrade") e refl, other_word word (codes "lineage") e refl) refl
+alone_none word e = rw (other_word word (codes "check") e refl, other_word word (codes "upgrade") e refl, other_word word (codes "least") e refl, other_word word (codes "lineage") e refl) refl
 
 with_none : (word argument : List ℕ) → is_argument word ≡ false → command_with word argument ≡ None
 with_none word argument e =
-    rw (other_word word (codes "play") e refl, other_word word (codes "view") e refl, other_word word (codes "select") e refl, other_word word (codes "gen") e refl, other_word word (codes "drill") e refl) refl
+    rw (other_word word (codes "play") e refl, other_word word (codes "sched") e refl, other_word word (codes "view") e refl, other_word word (codes "select") e refl, other_word word (codes "gen") e refl, other_word word (codes "drill") e refl) refl
 
 both_fall : (x t c d : Bool) → t ≡ false → (((x && t) && c) && d) ≡ false
 both_fall true t c d e = rw e refl
@@ -81,18 +83,19 @@ no_lines (b ∷ bytes) e =
     not_not true f = refl
     not_not false f = cc
 
-lines_none : (argument : List ℕ) (plays views selects gens drills t : Bool) (o : Option ℕ) → t ≡ false → o ≡ None
-    → cond plays (keep_if t Play) (cond views (keep_if t (View argument)) (cond selects (keep_if t (Select argument)) (cond gens (option_map Gen o) (cond drills (option_map Drill o) None)))) ≡ None
-lines_none argument true views selects gens drills t o e f = rw e refl
-lines_none argument false true selects gens drills t o e f = rw e refl
-lines_none argument false false true gens drills t o e f = rw e refl
-lines_none argument false false false true drills t o e f = rw f refl
-lines_none argument false false false false true t o e f = rw f refl
-lines_none argument false false false false false t o e f = refl
+lines_none : (argument : List ℕ) (plays scheds views selects gens drills t : Bool) (o : Option ℕ) → t ≡ false → o ≡ None
+    → cond plays (keep_if t Play) (cond scheds (keep_if t Sched) (cond views (keep_if t (View argument)) (cond selects (keep_if t (Select argument)) (cond gens (option_map Gen o) (cond drills (option_map Drill o) None))))) ≡ None
+lines_none argument true scheds views selects gens drills t o e f = rw e refl
+lines_none argument false true views selects gens drills t o e f = rw e refl
+lines_none argument false false true selects gens drills t o e f = rw e refl
+lines_none argument false false false true gens drills t o e f = rw e refl
+lines_none argument false false false false true drills t o e f = rw f refl
+lines_none argument false false false false false true t o e f = rw f refl
+lines_none argument false false false false false false t o e f = refl
 
 without_argument : (word argument : List ℕ) → is_argument argument ≡ false → command_with word argument ≡ None
 without_argument word argument e =
-    lines_none argument (same_bytes word (codes "play")) (same_bytes word (codes "view")) (same_bytes word (codes "select")) (same_bytes word (codes "gen")) (same_bytes word (codes "drill"))
+    lines_none argument (same_bytes word (codes "play")) (same_bytes word (codes "sched")) (same_bytes word (codes "view")) (same_bytes word (codes "select")) (same_bytes word (codes "gen")) (same_bytes word (codes "drill"))
     (is_argument argument) (lines_of argument) e (no_lines argument e)
 
 -- the command that one or two words name
@@ -135,12 +138,14 @@ named words o g word argument is some e f = ap₂ command_given e f ∙ (ap name
 -- a command that words name can be performed
 pub words_fit : (words : List (String Global)) (o : Option Command) → o ≡ command_of words → IfSome o FitsCommand
 words_fit [] o is = subst (λ (x : Option Command). IfSome x FitsCommand) (sym is) tt
-words_fit (word ∷ []) o is = subst (λ (x : Option Command). IfSome x FitsCommand) (sym is) (by_word (same_bytes (string_bytes word) (codes "check")) (same_bytes (string_bytes word) (codes "upgrade")) (same_bytes (string_bytes word) (codes "lineage")))
+words_fit (word ∷ []) o is = subst (λ (x : Option Command). IfSome x FitsCommand) (sym is) (by_word (same_bytes (string_bytes word) (codes "check")) (same_bytes (string_bytes word) (codes "upgrade")) (same_bytes (string_bytes word) (codes "least"))
+    (same_bytes (string_bytes word) (codes "lineage")))
   where
-    by_word : (checks upgrades checks_trail : Bool) → IfSome (cond checks (Some Check) (cond upgrades (Some Upgrade) (keep_if checks_trail Lineage))) FitsCommand
-    by_word true upgrades checks_trail = tt
-    by_word false true checks_trail = tt
-    by_word false false true = tt
-    by_word false false false = tt
+    by_word : (checks upgrades narrows checks_trail : Bool) → IfSome (cond checks (Some Check) (cond upgrades (Some Upgrade) (cond narrows (Some Least) (keep_if checks_trail Lineage)))) FitsCommand
+    by_word true upgrades narrows checks_trail = tt
+    by_word false true narrows checks_trail = tt
+    by_word false false true checks_trail = tt
+    by_word false false false true = tt
+    by_word false false false false = tt
 words_fit (word ∷ argument ∷ []) o is = command_fits (string_bytes word) (string_bytes argument) o is
 words_fit (word ∷ argument ∷ third ∷ rest) o is = subst (λ (x : Option Command). IfSome x FitsCommand) (sym is) tt

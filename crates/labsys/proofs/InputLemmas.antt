@@ -6,6 +6,7 @@ use Rattle.std.specs.Io.KnownBytes.{Consumes}
 use Rattle.io_ends.specs.LinesState.{LinesState, may_take}
 use Rattle.lab_engine.specs.declared.ending.InputEnd.{InputEnd}
 use Rattle.lab_engine.specs.Input.{Accepted, Input, input_in, no_world}
+use Rattle.lab_engine.specs.LeastInput.{least_in}
 use Rattle.lab_engine.specs.UpgradeInput.{kept_script, upgrade_in}
 use Rattle.world_text.specs.declared.format.Format.{Format}
 use Rattle.world_text.specs.declared.format.Format.TheVariants.{One, Two}
@@ -13,9 +14,10 @@ use Rattle.lab_engine.specs.Order.{Sent, calls_by, order_by, order_of, order_of_
 use Rattle.lab_engine.specs.Reading.{Takes, left_of}
 use Rattle.lab_engine.specs.Texts.{last_text}
 use Rattle.labsys.specs.declared.command.Command.{Command}
-use Rattle.labsys.specs.declared.command.Command.TheVariants.{Play, Check, Gen, Drill, View, Upgrade, Select, Lineage}
+use Rattle.labsys.specs.declared.command.Command.TheVariants.{Play, Sched, Check, Gen, Drill, View, Upgrade, Least, Select, Lineage}
 use Rattle.labsys.specs.Clauses.{TakesAtMost}
-use Rattle.labsys.specs.Commands.{due, due_of_check, due_of_play, due_of_upgrade, due_of_view, ends_with}
+use Rattle.labsys.specs.Commands.{due, due_of_check, due_of_least, due_of_play, due_of_sched, due_of_upgrade, due_of_view, ends_with}
+use Rattle.labsys.proofs.ProgramInputs.{no_programs}
 
 -- ---- what a source has left
 
@@ -55,25 +57,29 @@ format_of _ = Two
 -- whether a command reads an input: a world and a script
 abbrev pub reads_input : Command → Bool
 reads_input Play = true
+reads_input Sched = true
 reads_input Check = true
 reads_input (Gen n) = false
 reads_input (Drill n) = false
 reads_input (View word) = true
 reads_input Upgrade = true
+reads_input Least = true
 reads_input (Select word) = false
 reads_input Lineage = false
 
 -- what is due of a command that reads an input is then the last line
 pub due_without_world : (c : Command) → reads_input c ≡ true → (text : List ℕ) (e : InputEnd) → input_in (format_of c) text ≡ no_world e → upgrade_in (format_of c) text ≡ record { accepted = None; script = kept_script [] e }
-    → due c text ≡ record { order = to_out (last_text 0 e); status = ends_with e }
-due_without_world Play reads text e is kept = ap due_of_play is ∙ ap (λ (o : List Sent). record { order = o; status = ends_with e }) (sym (without_world e))
-due_without_world Check reads text e is kept = ap due_of_check is
-due_without_world (Gen n) reads text e is kept = absurd (cc)
-due_without_world (Drill n) reads text e is kept = absurd (cc)
-due_without_world (View word) reads text e is kept = ap (due_of_view word) is
-due_without_world Upgrade reads text e is kept = ap due_of_upgrade kept
-due_without_world (Select word) reads text e is kept = absurd (cc)
-due_without_world Lineage reads text e is kept = absurd (cc)
+    → least_in (format_of c) text ≡ no_world e → due c text ≡ record { order = to_out (last_text 0 e); status = ends_with e }
+due_without_world Play reads text e is kept least = ap due_of_play is ∙ ap (λ (o : List Sent). record { order = o; status = ends_with e }) (sym (without_world e))
+due_without_world Sched reads text e is kept least = ap due_of_sched (no_programs text e is)
+due_without_world Check reads text e is kept least = ap due_of_check is
+due_without_world (Gen n) reads text e is kept least = absurd (cc)
+due_without_world (Drill n) reads text e is kept least = absurd (cc)
+due_without_world (View word) reads text e is kept least = ap (due_of_view word) is
+due_without_world Upgrade reads text e is kept least = ap due_of_upgrade kept
+due_without_world Least reads text e is kept least = ap due_of_least least
+due_without_world (Select word) reads text e is kept least = absurd (cc)
+due_without_world Lineage reads text e is kept least = absurd (cc)
 
 pub no_calls : (i : Input) → i.accepted ≡ None → order_of_calls i ≡ []
 unfolding calls_by

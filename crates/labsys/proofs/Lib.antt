@@ -1,5 +1,7 @@
 pub mod CommandLemmas
 pub mod GeneratedLemmas
+pub mod ChosenLemmas
+pub mod ProgramInputs
 pub mod InputLemmas
 pub mod Coverage
 pub mod AcceptedLemmas
@@ -8,13 +10,18 @@ pub mod Isolating
 pub mod LineageLemmas
 pub mod ReadableLemmas
 pub mod PlayLemmas
+pub mod SchedulePlays
 pub mod TrailLemmas
 pub mod SessionLemmas
 pub mod CheckLemmas
 pub mod UpgradedLemmas
+pub mod LeastLemmas
 pub mod ViewedLemmas
 pub mod DrillLemmas
 pub mod PerformLemmas
 pub mod ClauseLemmas
+pub mod LoopIsolating
+pub mod ScheduleAnswers
 pub mod LineageAnswers
+pub mod NarrowedLemmas
 pub mod UntouchedLemmas

@@ -41,12 +41,13 @@ use Rattle.lab_engine.proofs.ReadableLemmas.{with_numbers}
 use Rattle.lab_engine.proofs.ReportLemmas.{all_reported}
 use Rattle.lab_engine.proofs.Sending.{goes_on, in_order, out_of_memory, passes_on, prefix_after, prefix_longer, prefix_nothing, sends_more, stops_after, stops_longer}
 use Rattle.labsys.specs.declared.command.Command.{Command}
-use Rattle.labsys.specs.declared.command.Command.TheVariants.{Play, Check, View, Upgrade}
+use Rattle.labsys.specs.declared.command.Command.TheVariants.{Play, Check, View, Upgrade, Least}
 use Rattle.labsys.specs.Clauses.{TakesAtMost}
-use Rattle.labsys.specs.Commands.{Due, due, due_of_check, due_of_play, due_of_upgrade, due_of_view, ends_with}
-use Rattle.labsys.specs.Playing.{ChecksWorld, CommandDid, EndsAs, PlaysWorld, UpgradesWorld, ViewsWorld}
+use Rattle.labsys.specs.Commands.{Due, due, due_of_check, due_of_least, due_of_play, due_of_upgrade, due_of_view, ends_with}
+use Rattle.labsys.specs.Playing.{ChecksWorld, CommandDid, EndsAs, LeastWorld, PlaysWorld, UpgradesWorld, ViewsWorld}
 use Rattle.labsys.specs.Readable.{InputReadable, SessionReadable}
 use Rattle.lab_text.specs.Text.{parse_label}
+use Rattle.lab_engine.specs.LeastInput.{least_at, least_in, least_of}
 use Rattle.lab_engine.specs.UpgradeInput.{upgrade_at, upgrade_in, upgrade_of}
 use Rattle.world_text.specs.declared.format.Format.{Format}
 use Rattle.world_text.specs.declared.format.Format.TheVariants.{One, Two}
@@ -225,7 +226,7 @@ module _ {format : Format} (x : Opened) (left between : Option (List ℕ)) (open
       all = begun.taken ++ reads.taken
 
       -- what a command did that wrote what is due of it
-      did_all : (c : Command) (d : Due) → due c (all ++ left_of left') ≡ d → Writes r d.order (ends n' o t) after → IfOk r (λ e. ends_with e ≡ d.status) → IfOk r (λ e. e ≡ AllRead → IsAtEnd left')
+      pub did_all : (c : Command) (d : Due) → due c (all ++ left_of left') ≡ d → Writes r d.order (ends n' o t) after → IfOk r (λ e. ends_with e ≡ d.status) → IfOk r (λ e. e ≡ AllRead → IsAtEnd left')
           → (c ≡ Play → r ≡ Err Read → Sends (order_of_calls (input_of all)) (ends n o t) after) → CommandDid c r left left' (ends n o t) after
       did_all c d same writes status to_the_end by_line = record {
         taken = all;
@@ -248,7 +249,8 @@ module _ {format : Format} (x : Opened) (left between : Option (List ℕ)) (open
     ended_writes c reads same r n n' o o' t still writes is =
         let text = ended.taken ++ left_of between in
         let is_due : due c text ≡ record { order = to_out (last_text 0 ending); status = ends_with ending } =
-        due_without_world c reads text ending (ap (λ (f : Format). input_in f text) same ∙ ended.shows.says) (ap (λ (f : Format). upgrade_in f text) same ∙ ended.shows.keeps) in
+        due_without_world c reads text ending (ap (λ (f : Format). input_in f text) same ∙ ended.shows.says) (ap (λ (f : Format). upgrade_in f text) same ∙ ended.shows.keeps)
+        (ap (λ (f : Format). least_in f text) same ∙ ended.shows.least) in
         record {
           taken = ended.taken;
           took = ended.took;
@@ -319,6 +321,14 @@ module _ (x : Opened) (left between : Option (List ℕ)) (opens : OpensInput Two
       -- what the label of a word sees was written
       pub opened_views : (word : List ℕ) → ViewsWorld (parse_label w.read.policy word) r w.read w.lines between left' (ends n' o t) after → CommandDid (View word) r left left' (ends n o t) after
       opened_views word did = goes_on_by did.reads (View word) (due_of_view word) (λ text. refl) did.writes (IfOk-weaker r _ _ (λ e is. ap ends_with is.same) did.ending) (IfOk-weaker r _ _ (λ e is. is.to_the_end) did.ending) (λ play. absurd (cc))
+
+      -- its world was narrowed
+      pub opened_narrows : LeastWorld r w.read w.lines between left' (ends n' o t) after → CommandDid Least r left left' (ends n o t) after
+      opened_narrows did =
+          let rest = did.reads.taken ++ left_of left' in
+          let same = ap least_of (append_assoc world.taken did.reads.taken (left_of left')) ∙ world.shows.least rest in
+          did_all x left between opens w is r left' n n' o t still after did.reads Least (due_of_least (record { accepted = Some w.read; script = least_at w.read.policy w.lines rest })) (ap due_of_least same)
+          did.writes (IfOk-weaker r _ _ (λ e is. ap ends_with is.same) did.ending) (IfOk-weaker r _ _ (λ e is. is.to_the_end) did.ending) (λ play. absurd (cc))
 
   -- it ended before its world did, and has no records
   module _ (ending : InputEnd) (is : x ≡ opened.Ended ending) where

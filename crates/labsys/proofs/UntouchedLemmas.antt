@@ -8,13 +8,15 @@ use Rattle.lab_engine.specs.Order.{IsInOrder}
 use Rattle.lab_engine.specs.Playing.{Ends, ends}
 use Rattle.lab_engine.proofs.Sending.{prefix_nothing, stops_at_once}
 use Rattle.labsys.specs.declared.command.Command.{Command}
-use Rattle.labsys.specs.declared.command.Command.TheVariants.{Play, Check, Gen, Drill, View, Upgrade, Select, Lineage}
+use Rattle.labsys.specs.declared.command.Command.TheVariants.{Play, Sched, Check, Gen, Drill, View, Upgrade, Least, Select, Lineage}
 use Rattle.labsys.specs.declared.status.Status.TheVariants as status
 use Rattle.labsys.specs.Clauses.{WhereReported, reports, reports_used}
-use Rattle.labsys.specs.Commands.{LeavesAlone, due, reads_source}
+use Rattle.labsys.specs.Commands.{LeavesAlone, due, reads_source, writes_trail}
 use Rattle.labsys.specs.Promises.{Plays}
+use Rattle.labsys.specs.ScheduleClauses.{Schedules}
 use Rattle.labsys.specs.Playing.{CommandDid}
 use Rattle.labsys.proofs.ClauseLemmas.{run_order, run_play}
+use Rattle.labsys.proofs.ScheduleAnswers.{run_schedules}
 
 -- what holds of each command holds of that which the words name
 pub where_named : (o : Option Command) (P : Command → Type 0) → ((c : Command) → P c) → IfSome o P
@@ -25,11 +27,13 @@ where_named (Some c) P f = f c
 pub untouched_alone : (o : Option Command) (source out trail : Type 0) → source → out → trail → LeavesAlone o source out trail
 untouched_alone None source out trail s o t = (s, o, t)
 untouched_alone (Some Play) source out trail s o t = tt
+untouched_alone (Some Sched) source out trail s o t = tt
 untouched_alone (Some Check) source out trail s o t = t
 untouched_alone (Some (Gen n)) source out trail s o t = (s, t)
 untouched_alone (Some (Drill n)) source out trail s o t = (s, t)
 untouched_alone (Some (View word)) source out trail s o t = t
 untouched_alone (Some Upgrade) source out trail s o t = t
+untouched_alone (Some Least) source out trail s o t = t
 untouched_alone (Some (Select word)) source out trail s o t = t
 untouched_alone (Some Lineage) source out trail s o t = t
 
@@ -53,6 +57,9 @@ untouched_to_the_end o Q = where_named o (λ command. reads_source command ≡ t
 pub untouched_read_fault : (o : Option Command) → IfSome o (λ command. status.NoMemory ≡ status.ReadFault → reads_source command ≡ true)
 untouched_read_fault o = where_named o (λ command. status.NoMemory ≡ status.ReadFault → reads_source command ≡ true) (λ command fault. cc)
 
+pub untouched_trail_fault : (o : Option Command) → IfSome o (λ command. status.NoMemory ≡ status.TrailFault → writes_trail command ≡ true)
+untouched_trail_fault o = where_named o (λ command. status.NoMemory ≡ status.TrailFault → writes_trail command ≡ true) (λ command fault. cc)
+
 module _ (l out trail : Option (List ℕ)) where
   abbrev still : Ends
   still = ends 0 (sink_view out 0) (sink_view trail 0)
@@ -65,3 +72,8 @@ module _ (l out trail : Option (List ℕ)) where
   untouched_play =
       run_play (Err NoMemory) l l still still (did_nothing Play l still) status.NoMemory refl
       (λ text is a accepted. inr (prefix_nothing _ still.source still.source still.out still.trail))
+
+  pub untouched_schedule : Schedules status.NoMemory (reports l out trail) (reports l out trail)
+  untouched_schedule =
+      run_schedules (Err NoMemory) l l still still (did_nothing Sched l still) status.NoMemory refl
+      (λ text is a s scheduled. inr (prefix_nothing _ still.source still.source still.out still.trail))

@@ -11,12 +11,14 @@ use Rattle.lab_text.specs.Names.{same_bytes}
 use Rattle.lab_usage.specs.Words.{is_argument}
 use Rattle.aud_red.specs.declared.trail.Trail.{Trail}
 use Rattle.labsys.specs.declared.command.Command.{Command}
-use Rattle.labsys.specs.declared.command.Command.TheVariants.{Play, Check, Gen, Drill, View, Upgrade, Select, Lineage}
+use Rattle.labsys.specs.declared.command.Command.TheVariants.{Play, Sched, Check, Gen, Drill, View, Upgrade, Least, Select, Lineage}
 use Rattle.lab_engine.specs.declared.ending.InputEnd.{InputEnd}
 use Rattle.lab_engine.specs.declared.ending.InputEnd.TheVariants.{Whole, Refused as IsRefused, TooMuch}
 use Rattle.labsys.specs.Checking.{order_of_check}
 use Rattle.labsys.specs.Drilling.{drilled_text}
+use Rattle.labsys.specs.Least.{order_of_least}
 use Rattle.labsys.specs.LineageText.{ending_of_lineage, text_of_lineage}
+use Rattle.labsys.specs.Scheduling.{ProgramInput, ending_of_programs, order_of_programs, programs_of}
 use Rattle.labsys.specs.Selecting.{ending_by_word, text_of_select}
 use Rattle.labsys.specs.Trails.{trail_in}
 use Rattle.labsys.specs.Upgrading.{order_of_upgrade}
@@ -24,6 +26,7 @@ use Rattle.labsys.specs.Viewing.{ending_of_view, text_of_view}
 use Rattle.labsys.specs.declared.status.Status.{Status}
 use Rattle.labsys.specs.declared.status.Status.TheVariants.{Done, Refused, TooLong}
 use Rattle.lab_engine.specs.Input.{Input, input_of}
+use Rattle.lab_engine.specs.LeastInput.{least_of}
 use Rattle.lab_engine.specs.Order.{Sent, order_of, to_out}
 use Rattle.lab_engine.specs.UpgradeInput.{UpgradeInput, upgrade_of}
 
@@ -33,11 +36,12 @@ use Rattle.lab_engine.specs.UpgradeInput.{UpgradeInput, upgrade_of}
 abbrev pub lines_of : List ℕ → Option ℕ
 lines_of word = numeral 10 6 1 MAX_LINES word
 
--- the command that a word names without an argument: `check`, `upgrade` or `lineage`
+-- the command that a word names without an argument: `check`, `upgrade`, `least` or `lineage`
 abbrev pub command_alone : List ℕ → Option Command
 command_alone word =
     cond (same_bytes word (codes "check")) (Some Check)
-    (cond (same_bytes word (codes "upgrade")) (Some Upgrade) (keep_if (same_bytes word (codes "lineage")) Lineage))
+    (cond (same_bytes word (codes "upgrade")) (Some Upgrade)
+    (cond (same_bytes word (codes "least")) (Some Least) (keep_if (same_bytes word (codes "lineage")) Lineage)))
 
 -- the command that a word names with how many lines are asked for: `gen N` or `drill N`
 abbrev pub command_of_lines : List ℕ → List ℕ → Option Command
@@ -45,12 +49,13 @@ command_of_lines word argument =
     cond (same_bytes word (codes "gen")) (option_map Gen (lines_of argument))
     (cond (same_bytes word (codes "drill")) (option_map Drill (lines_of argument)) None)
 
--- the command that a word names with an argument: `play FILE`, `view LABEL`, `select SPEC`, or one with how many lines are asked for
+-- the command that a word names with an argument: `play FILE`, `sched FILE`, `view LABEL`, `select SPEC`, or one with how many lines are asked for
 abbrev pub command_with : List ℕ → List ℕ → Option Command
 command_with word argument =
     cond (same_bytes word (codes "play")) (keep_if (is_argument argument) Play)
+    (cond (same_bytes word (codes "sched")) (keep_if (is_argument argument) Sched)
     (cond (same_bytes word (codes "view")) (keep_if (is_argument argument) (View argument))
-    (cond (same_bytes word (codes "select")) (keep_if (is_argument argument) (Select argument)) (command_of_lines word argument)))
+    (cond (same_bytes word (codes "select")) (keep_if (is_argument argument) (Select argument)) (command_of_lines word argument))))
 
 -- the command that the words name, if they name one
 abbrev pub command_of : List (String Global) → Option Command
@@ -61,11 +66,13 @@ command_of words = None
 -- so many lines can be generated
 abbrev pub FitsCommand : Command → Type 0
 FitsCommand Play = Unit {0}
+FitsCommand Sched = Unit {0}
 FitsCommand Check = Unit {0}
 FitsCommand (Gen n) = (1 ≤ n) × (n ≤ MAX_LINES)
 FitsCommand (Drill n) = (1 ≤ n) × (n ≤ MAX_LINES)
 FitsCommand (View word) = Unit {0}
 FitsCommand Upgrade = Unit {0}
+FitsCommand Least = Unit {0}
 FitsCommand (Select word) = Unit {0}
 FitsCommand Lineage = Unit {0}
 
@@ -86,6 +93,10 @@ pub record Due : Type 0 where
 abbrev pub due_of_play : Input → Due
 due_of_play i = record { order = order_of i; status = ends_with i.script.ending }
 
+-- what is due of an input of programs
+abbrev pub due_of_sched : ProgramInput → Due
+due_of_sched i = record { order = order_of_programs i; status = ends_with (ending_of_programs i) }
+
 -- what is due of an input that is read and not played
 abbrev pub due_of_check : Input → Due
 due_of_check i = record { order = order_of_check i; status = ends_with i.script.ending }
@@ -98,6 +109,10 @@ due_of_view word i = record { order = to_out (text_of_view word i.accepted i.scr
 abbrev pub due_of_upgrade : UpgradeInput → Due
 due_of_upgrade i = record { order = order_of_upgrade i; status = ends_with i.script.ending }
 
+-- what is due of an input whose capabilities are narrowed
+abbrev pub due_of_least : Input → Due
+due_of_least i = record { order = order_of_least i; status = ends_with i.script.ending }
+
 -- what is due of a trail of which a word picks records
 abbrev pub due_of_select : List ℕ → Result Trail InputEnd → Due
 due_of_select word t = record { order = to_out (text_of_select word t); status = ends_with (ending_by_word word t) }
@@ -109,11 +124,13 @@ due_of_lineage t = record { order = to_out (text_of_lineage t); status = ends_wi
 -- what is due of a command, by the bytes of the source
 abbrev pub due : Command → List ℕ → Due
 due Play text = due_of_play (input_of text)
+due Sched text = due_of_sched (programs_of text)
 due Check text = due_of_check (input_of text)
 due (Gen n) text = record { order = to_out (gen_text n); status = Done }
 due (Drill n) text = record { order = to_out (drilled_text n); status = Done }
 due (View word) text = due_of_view word (input_of text)
 due Upgrade text = due_of_upgrade (upgrade_of text)
+due Least text = due_of_least (least_of text)
 due (Select word) text = due_of_select word (trail_in text)
 due Lineage text = due_of_lineage (trail_in text)
 
@@ -122,22 +139,26 @@ due Lineage text = due_of_lineage (trail_in text)
 -- whether a command reads the source
 abbrev pub reads_source : Command → Bool
 reads_source Play = true
+reads_source Sched = true
 reads_source Check = true
 reads_source (Gen n) = false
 reads_source (Drill n) = false
 reads_source (View word) = true
 reads_source Upgrade = true
+reads_source Least = true
 reads_source (Select word) = true
 reads_source Lineage = true
 
 -- whether a command writes to the trail
 abbrev pub writes_trail : Command → Bool
 writes_trail Play = true
+writes_trail Sched = true
 writes_trail Check = false
 writes_trail (Gen n) = false
 writes_trail (Drill n) = false
 writes_trail (View word) = false
 writes_trail Upgrade = false
+writes_trail Least = false
 writes_trail (Select word) = false
 writes_trail Lineage = false
 
@@ -145,10 +166,12 @@ writes_trail Lineage = false
 abbrev pub LeavesAlone : Option Command → (source out trail : Type 0) → Type 0
 LeavesAlone None source out trail = source × out × trail
 LeavesAlone (Some Play) source out trail = Unit {0}
+LeavesAlone (Some Sched) source out trail = Unit {0}
 LeavesAlone (Some Check) source out trail = trail
 LeavesAlone (Some (Gen n)) source out trail = source × trail
 LeavesAlone (Some (Drill n)) source out trail = source × trail
 LeavesAlone (Some (View word)) source out trail = trail
 LeavesAlone (Some Upgrade) source out trail = trail
+LeavesAlone (Some Least) source out trail = trail
 LeavesAlone (Some (Select word)) source out trail = trail
 LeavesAlone (Some Lineage) source out trail = trail

@@ -1,10 +1,12 @@
 pub mod Checking
 pub mod Viewing
 pub mod Upgrading
+pub mod Least
 pub mod Drilling
 pub mod Trails
 pub mod Selecting
 pub mod LineageText
+pub mod Scheduling
 pub mod Commands
 pub mod Counts
 pub mod Readable
@@ -12,4 +14,5 @@ pub mod Playing
 pub mod Clauses
 pub mod Lineage
 pub mod Promises
+pub mod ScheduleClauses
 pub mod Exit

@@ -8,11 +8,15 @@ use Rattle.lab_engine.specs.declared.ending.InputEnd.{InputEnd}
 use Rattle.lab_engine.specs.declared.ending.InputEnd.TheVariants.{Whole as AllRead}
 use Rattle.lab_engine.specs.declared.ending.Fault.{Fault}
 use Rattle.lab_engine.specs.declared.ending.Fault.TheVariants.{Read}
-use Rattle.lab_engine.specs.Input.{Accepted, input_of}
+use Rattle.lab_engine.specs.declared.least.Needed.{Needed}
+use Rattle.lab_engine.specs.Input.{Accepted, Script, input_of}
+use Rattle.lab_engine.specs.LeastInput.{least_at}
 use Rattle.lab_engine.specs.Order.{calls_by, order_by, order_of_calls, to_out}
 use Rattle.lab_engine.specs.Playing.{Ends, Sends, Writes}
 use Rattle.lab_engine.specs.Reading.{left_of, script_at}
 use Rattle.lab_engine.specs.UpgradeInput.{upgrade_at}
+use Rattle.lab_engine.specs.Upgrading.{ReadsBack}
+use Rattle.sched_engine.specs.Reading.{schedule_at}
 use Rattle.labsys.specs.declared.command.Command.{Command}
 use Rattle.labsys.specs.declared.command.Command.TheVariants.{Play}
 use Rattle.labsys.specs.Checking.{check_text}
@@ -20,7 +24,9 @@ use Rattle.lab_engine.specs.Session.{session_of}
 use Rattle.labsys.specs.Clauses.{TakesAtMost}
 use Rattle.labsys.specs.Drilling.{drill_text}
 use Rattle.labsys.specs.Commands.{due, ends_with, reads_source}
-use Rattle.labsys.specs.Readable.{SessionReadable}
+use Rattle.labsys.specs.Least.{least_world, needed_by, text_of_least}
+use Rattle.labsys.specs.Readable.{ProgramsReadable, SessionReadable}
+use Rattle.labsys.specs.Scheduling.{ending_of_programs, order_of_programs, with_schedule}
 use Rattle.labsys.specs.Upgrading.{upgrade_text}
 use Rattle.labsys.specs.Viewing.{viewed_ending, viewed_text}
 
@@ -60,11 +66,36 @@ pub record UpgradesWorld (result : Result InputEnd Fault) (a : Accepted) (lines 
   pub writes : Writes result (to_out (upgrade_text (Some a) (upgrade_at a.policy lines (reads.taken ++ left_of left')))) before after
   pub ending : IfOk result (λ e. EndsAs e (upgrade_at a.policy lines (reads.taken ++ left_of left')).ending left')
 
+-- a script of an accepted world was played from the first state on, and its exercises name these capabilities
+pub record NeededIn (a : Accepted) (m : Script) (left : Option (List ℕ)) (n : Needed) : Type 0 where
+  pub ending : n.ending ≡ m.ending
+  pub caps : n.caps ≡ needed_by a m
+  pub to_the_end : n.ending ≡ AllRead → IsAtEnd left
+
+-- the same of the script at a reader, by the bytes that were taken and are left
+pub record NeedsWorld (result : Result Needed Fault) (a : Accepted) (lines : LinesState) (left left' : Option (List ℕ)) : Type 0 where
+  pub reads : TakesAtMost (may_take lines) left left'
+  pub did : IfOk result (λ n. NeededIn a (least_at a.policy lines (reads.taken ++ left_of left')) left' n)
+
+-- the script of an accepted world was played, and the world narrowed, by the bytes that were taken and are left
+pub record LeastWorld (result : Result InputEnd Fault) (a : Accepted) (lines : LinesState) (left left' : Option (List ℕ)) (before after : Ends) : Type 0 where
+  pub reads : TakesAtMost (may_take lines) left left'
+  pub writes : Writes result (to_out (text_of_least (Some a) (least_at a.policy lines (reads.taken ++ left_of left')))) before after
+  pub ending : IfOk result (λ e. EndsAs e (least_at a.policy lines (reads.taken ++ left_of left')).ending left')
+  pub back : IfOk result (λ e. e ≡ AllRead → ReadsBack (least_world a (needed_by a (least_at a.policy lines (reads.taken ++ left_of left')))))
+
 -- what a view of an accepted world and its script writes was written, by the label that a word denotes and by the bytes that were taken and are left
 pub record ViewsWorld (o : Option Label) (result : Result InputEnd Fault) (a : Accepted) (lines : LinesState) (left left' : Option (List ℕ)) (before after : Ends) : Type 0 where
   pub reads : TakesAtMost (may_take lines) left left'
   pub writes : Writes result (to_out (viewed_text o a (script_at a.policy lines (reads.taken ++ left_of left')))) before after
   pub ending : IfOk result (λ e. EndsAs e (viewed_ending o (script_at a.policy lines (reads.taken ++ left_of left')).ending) left')
+
+-- programs were run on an accepted world in turns: the order of the schedule at a reader, by the bytes that were taken and are left, was written
+pub record RunsPrograms (result : Result InputEnd Fault) (a : Accepted) (lines : LinesState) (left left' : Option (List ℕ)) (before after : Ends) : Type 0 where
+  pub reads : TakesAtMost (may_take lines) left left'
+  pub writes : Writes result (order_of_programs (with_schedule a (schedule_at a.policy lines (reads.taken ++ left_of left')))) before after
+  pub ending : IfOk result (λ e. EndsAs e (ending_of_programs (with_schedule a (schedule_at a.policy lines (reads.taken ++ left_of left')))) left')
+  pub readable : ProgramsReadable (with_schedule a (schedule_at a.policy lines (reads.taken ++ left_of left'))) before after
 
 -- this is the line of what was played of an accepted world and its script, by the bytes that were taken and are left
 pub record DrillsWorld (text : List ℕ) (n : ℕ) (a : Accepted) (lines : LinesState) (left left' : Option (List ℕ)) : Type 0 where

@@ -1,4 +1,4 @@
--- What `play`, `view`, `upgrade` and `lineage` promise, where the ends that they use report their bytes.
+-- What `play`, `view`, `upgrade`, `least` and `lineage` promise, where the ends that they use report their bytes.
 use Rattle.std.specs.Prelude.{◌≡◌, ℕ, List, Some}
 use Rattle.lab_lattice.specs.Label.{Label}
 use Rattle.lab_text.specs.Text.{parse_label}
@@ -7,10 +7,11 @@ use Rattle.lab_engine.specs.Input.{Accepted, Script}
 use Rattle.lab_engine.specs.Session.{session_of}
 use Rattle.lab_engine.specs.Viewing.{session_alone, view_text}
 use Rattle.lab_engine.specs.Upgrading.{UpgradedTo}
-use Rattle.labsys.specs.declared.command.Command.TheVariants.{Lineage, Upgrade, View}
+use Rattle.labsys.specs.declared.command.Command.TheVariants.{Least, Lineage, Upgrade, View}
 use Rattle.labsys.specs.declared.status.Status.{Status}
 use Rattle.labsys.specs.declared.status.Status.TheVariants.{Done, ReadFault}
 use Rattle.labsys.specs.Clauses.{Reports, reports_used, run_of, OnWhole, WhereReported, WhereAccepted, PlayedTaken, Covered, RepliesFirst, Printed, Dropped, Isolated, IsolatedWhole, SameBelow, TwoInputs, TwoWhole}
+use Rattle.labsys.specs.Least.{NarrowedTo}
 use Rattle.labsys.specs.Lineage.{PrintedByAny}
 use Rattle.labsys.specs.LineageText.{SaysLineage}
 
@@ -56,6 +57,12 @@ pub record Upgrades (status : Status) (old now : Reports) : Type 0 where
   -- The output is the canonical text of the world, and after it each line behind the line `script`, unchanged. Where no line is too long, nor the output as a
   -- whole, it is the same input.
   pub upgraded : status ≡ Done → WhereReported (reports_used Upgrade old) (reports_used Upgrade now) (λ text out trail. UpgradedTo text out)
+
+-- a run of `least`, with this status
+pub record Narrows (status : Status) (old now : Reports) : Type 0 where
+  -- The output is the line of the capabilities that the script did not need, and the canonical text of the world without them. Where no line is too long, nor the
+  -- output with all that stands behind the line `script`, these two are an input with that world and the same calls, and each call gets the same reply.
+  pub narrowed : status ≡ Done → WhereReported (reports_used Least old) (reports_used Least now) (λ text out trail. NarrowedTo text out)
 
 -- a run of `lineage`, with this status
 pub record ChecksLineage (status : Status) (old now : Reports) : Type 0 where

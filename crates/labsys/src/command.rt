@@ -44,6 +44,8 @@ impl<'a> Argument<'a> {
 pub enum Command<'a> {
     /// `play FILE` plays the world and the script that the source holds.
     Play,
+    /// `sched FILE` plays the world and the programs that the source holds, in turns by label.
+    Sched,
     /// `check` reads the world and the script that the source holds, and plays nothing.
     Check,
     /// `gen N` writes the generated input of N lines.
@@ -54,6 +56,8 @@ pub enum Command<'a> {
     View(Argument<'a>),
     /// `upgrade` reads the world and the script of the old format that the source holds, and writes them in the format of today.
     Upgrade,
+    /// `least` plays the world and the script that the source holds, and writes the world without the capabilities that were not needed.
+    Least,
     /// `select SPEC` reads the trail that the source holds, and writes the records that SPEC picks as lines of JSON.
     Select(Argument<'a>),
     /// `lineage` reads the trail that the source holds, and writes whether each record may follow those before it.
@@ -78,6 +82,9 @@ fn command_alone(word: &[u8]) -> Option<Command<'static>>
     if word == b"upgrade".as_slice() {
         return Some(Command::Upgrade);
     }
+    if word == b"least".as_slice() {
+        return Some(Command::Least);
+    }
     (word == b"lineage".as_slice()).then_some(Command::Lineage)
 }
 
@@ -100,6 +107,9 @@ fn command_with<'a>(word: &[u8], argument: &'a [u8]) -> Option<Command<'a>>
     if word == b"play".as_slice() {
         return Some(Command::Play);
     }
+    if word == b"sched".as_slice() {
+        return Some(Command::Sched);
+    }
     if word == b"view".as_slice() {
         return Some(Command::View(Argument::new(argument)));
     }
@@ -109,7 +119,7 @@ fn command_with<'a>(word: &[u8], argument: &'a [u8]) -> Option<Command<'a>>
     command_of_lines(word, argument)
 }
 
-/// The command that the arguments name. The file of `play` is not opened.
+/// The command that the arguments name. The file of `play` or `sched` is not opened.
 pub fn command_of(alloc: Global, words: &[String]) -> Result<Option<Command<'_>>, AllocError>
     ensures command { IfOk result (λ command. command ≡ command_of words.now) }
     ensures fits { IfOk result (λ command. IfSome command FitsCommand) }

@@ -5,10 +5,12 @@ mod checking;
 mod command;
 mod drilling;
 mod generating;
+mod least;
 mod lineage;
 mod performing;
 mod playing;
 mod running;
+mod scheduling;
 mod selecting;
 mod session;
 mod status;
@@ -100,8 +102,8 @@ fn explain_fault(rt: &HostRuntime, end: &str, cause: Option<io::Error>) {
 // Says that standard input is read, where a terminal waits for it to be typed.
 fn announce_input(rt: &HostRuntime, words: &[String]) {
     let reads = match words {
-        [word] => matches!(word.as_str(), "check" | "upgrade" | "lineage"),
-        [word, _] => matches!(word.as_str(), "play" | "view" | "select"),
+        [word] => matches!(word.as_str(), "check" | "upgrade" | "least" | "lineage"),
+        [word, _] => matches!(word.as_str(), "play" | "sched" | "view" | "select"),
         _ => false,
     };
     if reads && rt.stdin().is_terminal() {

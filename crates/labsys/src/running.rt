@@ -3,10 +3,11 @@ ghost use Rattle.std.specs.Prelude.{◌≡◌, ◌≢◌, ◌↔◌, ◌+◌, tr
 ghost use Rattle.std.specs.Io.KnownBytes.{IsAtEnd};
 ghost use Rattle.kern_model.specs.declared.limits.TheConstants.{MAX_INPUT};
 ghost use Rattle.lab_engine.specs.Order.{out_of, trail_of, IsInOrder};
-ghost use Rattle.labsys.specs.Commands.{LeavesAlone, command_of, due, reads_source};
+ghost use Rattle.labsys.specs.Commands.{LeavesAlone, command_of, due, reads_source, writes_trail};
 ghost use Rattle.lab_engine.specs.Counts.{counts};
 ghost use Rattle.labsys.specs.Counts.{counts_after};
-ghost use Rattle.labsys.specs.Promises.{ChecksLineage, Plays, Upgrades, Views};
+ghost use Rattle.labsys.specs.Promises.{ChecksLineage, Narrows, Plays, Upgrades, Views};
+ghost use Rattle.labsys.specs.ScheduleClauses.{Schedules};
 ghost use Rattle.labsys.specs.Clauses.{status_of, OnWhole, TakesAtMost, WhereReported, reports_of_ends, if_used, reports_used};
 
 use crate::command::command_of;
@@ -32,10 +33,11 @@ fn status_of(played: Result<InputEnd, Fault>) -> Status
 
 /// Runs the command that the words name. `play FILE` plays the world and the script that the source holds: it writes
 /// the records of each call to the trail, and then the reply to the output. The file is not opened: `trail` stands
-/// for it. `view LABEL` plays the input too, and writes what the label sees of it to the output. `check` reads the same
+/// for it. `sched FILE` plays the world and the programs that the source holds, in turns by label, and writes the same of
+/// each call. `view LABEL` plays the input too, and writes what the label sees of it to the output. `check` reads the same
 /// input and plays nothing: it writes how many objects, processes and calls there are, or the line that refuses the
-/// input. `upgrade` reads an input of the old format, and writes it in the format of today. `gen N` writes the generated input
-/// of N lines to the output, and `drill N` plays that input and writes one line with how its calls were answered. `select SPEC`
+/// input. `upgrade` reads an input of the old format, and writes it in the format of today. `least` plays the input, and writes its
+/// world without the capabilities that its script did not need. `gen N` writes the generated input of N lines to the output, and `drill N` plays that input and writes one line with how its calls were answered. `select SPEC`
 /// reads a trail, and writes the records that SPEC picks as lines of JSON. `lineage` reads a trail, and writes whether each of
 /// its records may come after those before it.
 pub fn run<S: Source, K: Sink, T: Sink>(
@@ -47,13 +49,13 @@ pub fn run<S: Source, K: Sink, T: Sink>(
 ) -> Status
     // With any status but 6, status 1 comes exactly where the words name no command.
     ensures words { result ≢ Status.NoMemory → ((result ≡ Status.Usage) ↔ (command_of words.now ≡ None)) }
-    // Without a command nothing is read or written. `gen` and `drill` read nothing, and only `play` writes to the trail.
+    // Without a command nothing is read or written. `gen` and `drill` read nothing, and only `play` and `sched` write to the trail.
     ensures left_alone { LeavesAlone (command_of words.now) (source.new ≡ source.old) (out.new ≡ out.old) (trail.new ≡ trail.old) }
     // The first fault ends the run: one is counted with status 3, 4 or 5, by the end that it reports, and none with another.
     ensures counts { counts (S.view source.new).faults (K.view out.new).faults (T.view trail.new).faults ≡ counts_after result (counts (S.view source.old).faults (K.view out.old).faults (T.view trail.old).faults) }
-    // A read fault comes only of a command that reads the source, and a trail fault only of `play`.
+    // A read fault comes only of a command that reads the source, and a trail fault only of one that writes the trail.
     ensures read_fault { IfSome (command_of words.now) (λ command. result ≡ Status.ReadFault → reads_source command ≡ true) }
-    ensures trail_fault { result ≡ Status.TrailFault → command_of words.now ≡ Some Command.Play }
+    ensures trail_fault { IfSome (command_of words.now) (λ command. result ≡ Status.TrailFault → writes_trail command ≡ true) }
 
     // At every exit both sinks have received the bytes of a prefix of the one order. An end that the command does not use need not report.
     ensures order { IfSome (command_of words.now) (λ command. WhereReported (reports_used command (reports_of_ends (S.view source.old) (K.view out.old) (T.view trail.old))) (reports_used command (reports_of_ends (S.view source.new) (K.view out.new) (T.view trail.new)))
@@ -66,11 +68,16 @@ pub fn run<S: Source, K: Sink, T: Sink>(
 
     // What `play` promises besides: records before replies, isolation, and the capability sets at the end.
     ensures play { command_of words.now ≡ Some Command.Play → Plays result (reports_of_ends (S.view source.old) (K.view out.old) (T.view trail.old)) (reports_of_ends (S.view source.new) (K.view out.new) (T.view trail.new)) }
+    // What `sched` promises besides: records before replies, isolation of programs that react, and the capability sets at the end.
+    ensures sched { command_of words.now ≡ Some Command.Sched → Schedules result (reports_of_ends (S.view source.old) (K.view out.old) (T.view trail.old)) (reports_of_ends (S.view source.new) (K.view out.new) (T.view trail.new)) }
     // What `view` promises besides: it writes what it writes of the part below its label alone.
     ensures view { (word : List ℕ) → command_of words.now ≡ Some (Command.View word) → Views word result (reports_of_ends (S.view source.old) (K.view out.old) (T.view trail.old)) (reports_of_ends (S.view source.new) (K.view out.new) (T.view trail.new)) }
 
     // What `upgrade` promises besides: the same world and the same script, in the format of today.
     ensures upgrade { command_of words.now ≡ Some Command.Upgrade → Upgrades result (reports_of_ends (S.view source.old) (K.view out.old) (T.view trail.old)) (reports_of_ends (S.view source.new) (K.view out.new) (T.view trail.new)) }
+
+    // What `least` promises besides: the world without the capabilities that the script did not need gives the same replies to it.
+    ensures least { command_of words.now ≡ Some Command.Least → Narrows result (reports_of_ends (S.view source.old) (K.view out.old) (T.view trail.old)) (reports_of_ends (S.view source.new) (K.view out.new) (T.view trail.new)) }
 
     // What `lineage` promises besides: each record of the trail may come after those before it, or the first that may not is named.
     ensures lineage { command_of words.now ≡ Some Command.Lineage → ChecksLineage result (reports_of_ends (S.view source.old) (K.view out.old) (T.view trail.old)) (reports_of_ends (S.view source.new) (K.view out.new) (T.view trail.new)) }

@@ -1,6 +1,7 @@
 // Whole runs over ends in memory: what each status leaves in the output and in the trail.
 mod hostile;
 mod other_ends;
+mod programs;
 
 use super::*;
 use fs_path::{next_line, number_of};

@@ -35,6 +35,8 @@ pub enum LineFault {
     BadLabel,
     /// A capability text of a call is invalid.
     BadCaps,
+    /// The call asks for capability sets, where capabilities are narrowed to those that are needed.
+    CapsAsked,
     /// The trail ends inside the line, or before its header does.
     Unended,
     /// It is not the line of the trail's header that is expected there, as the trail writes it.
@@ -64,6 +66,7 @@ impl LineFault {
             LineFault::BadPath => b"bad_path",
             LineFault::BadLabel => b"bad_label",
             LineFault::BadCaps => b"bad_caps",
+            LineFault::CapsAsked => b"caps_asked",
             LineFault::Unended => b"unended",
             LineFault::Header => b"header",
             LineFault::Record => b"record",

@@ -4,3 +4,4 @@ pub mod LineLemmas
 pub mod ProgramLemmas
 pub mod Progress
 pub mod ScheduleLemmas
+pub mod TextLemmas

@@ -20,7 +20,7 @@ use Rattle.script_text.specs.declared.fault.LineError.{LineError}
 use Rattle.script_text.specs.declared.fault.LineError.TheVariants as error
 use Rattle.script_text.specs.declared.step.StepLine.{StepLine}
 use Rattle.script_text.specs.declared.step.StepLine.TheVariants as line_is
-use Rattle.script_text.specs.Reading.{IsCause, IsFaultOf, Reading}
+use Rattle.script_text.specs.Reading.{IsCause, Reading}
 use Rattle.script_text.specs.Step.{StepMayBePlayed, parse_step, parse_step_words}
 use Rattle.lab_engine.specs.declared.ending.InputEnd.{InputEnd}
 use Rattle.lab_engine.specs.declared.ending.InputEnd.TheVariants.{Refused, TooMuch}
@@ -32,7 +32,7 @@ use Rattle.sched_engine.specs.declared.reading.ScheduleLine.{ScheduleLine}
 use Rattle.sched_engine.specs.declared.reading.ScheduleLine.TheVariants as schedule_line
 use Rattle.sched_engine.specs.declared.schedule.Expecting.{Expecting}
 use Rattle.sched_engine.specs.declared.schedule.Schedule.{Schedule}
-use Rattle.sched_engine.specs.Reading.{ReadsLine, after_line, at_end, go_on, schedule_from, schedule_left}
+use Rattle.sched_engine.specs.Reading.{IsFaultIn, ReadsLine, after_line, at_end, go_on, schedule_from, schedule_left}
 use Rattle.sched_engine.specs.Schedule.{step_line, whole}
 use Rattle.sched_engine.proofs.ScheduleLemmas.{step_plays, whole_plays}
 
@@ -47,11 +47,11 @@ unfolding schedule_from
 last_of policy due over n last = refl
 
 more_of : (policy : PolicyNames) (due : Expecting) (over : Bool) (n : ℕ) (line : List ℕ) (ps : List (List ℕ)) (p : List ℕ) (qs : List (List ℕ)) → ps ≡ p ∷ qs
-    → schedule_by policy due over n (line ∷ ps) ≡ go_on (after_line due (parse_step policy line)) n (λ after. schedule_from over policy (n + 1) after ps)
+    → schedule_by policy due over n (line ∷ ps) ≡ go_on (after_line line due (parse_step policy line)) n (λ after. schedule_from over policy (n + 1) after ps)
 unfolding schedule_from
 more_of policy due over n line ps p qs is =
     ap (λ (r : List (List ℕ)). schedule_from over policy n due (line ∷ r)) is
-    ∙ sym (ap (λ (r : List (List ℕ)). go_on (after_line due (parse_step policy line)) n (λ after. schedule_from over policy (n + 1) after r)) is)
+    ∙ sym (ap (λ (r : List (List ℕ)). go_on (after_line line due (parse_step policy line)) n (λ after. schedule_from over policy (n + 1) after r)) is)
 
 -- ---- the last piece
 
@@ -93,7 +93,7 @@ module _ (policy : PolicyNames) (due : Expecting) (before now : LinesState) (got
 
   -- a line
   module _ (gives : GivesLine text before.room now) where
-    line_left : (more : List ℕ) → schedule_left policy due before (got ++ more) ≡ go_on (after_line due (parse_step policy now.line)) now.number (λ after. schedule_left policy after now more)
+    line_left : (more : List ℕ) → schedule_left policy due before (got ++ more) ≡ go_on (after_line now.line due (parse_step policy now.line)) now.number (λ after. schedule_left policy after now more)
     unfolding schedule_left
     line_left more =
         let left = pieces 10 (take now.room (now.held ++ more)) in
@@ -101,7 +101,7 @@ module _ (policy : PolicyNames) (due : Expecting) (before now : LinesState) (got
         left_line (schedule_by policy due) before now got number gives more
         ∙ more_of policy due (nat_lt now.room (length (now.held ++ more))) now.number now.line left first.0 first.1 first.2
 
-    pub line_judged : (judged : Result Expecting LineFault) → after_line due (parse_step policy now.line) ≡ judged → (more : List ℕ)
+    pub line_judged : (judged : Result Expecting LineFault) → after_line now.line due (parse_step policy now.line) ≡ judged → (more : List ℕ)
         → schedule_left policy due before (got ++ more) ≡ go_on judged now.number (λ after. schedule_left policy after now more)
     line_judged judged is more = line_left more ∙ ap (λ (r : Result Expecting LineFault). go_on r now.number (λ after. schedule_left policy after now more)) is
 
@@ -144,7 +144,7 @@ module _ (policy : PolicyNames) (due : Expecting) (before now : LinesState) (got
     long_of : (over : Bool) (line : List ℕ) (ps : List (List ℕ)) → MAX_LINE < length line → schedule_by policy due over now.number (line ∷ ps) ≡ refused_by fault.TooLong
     long_of over line [] long = last_of policy due over now.number line ∙ ap (at_end due now.number) (long_piece over now.number line long)
     long_of over line (p ∷ ps) long = more_of policy due over now.number line (p ∷ ps) p ps refl
-        ∙ ap (λ (r : Reading StepLine). go_on (after_line due r) now.number (λ after. schedule_from over policy (now.number + 1) after (p ∷ ps))) (step_long policy line long)
+        ∙ ap (λ (r : Reading StepLine). go_on (after_line line due r) now.number (λ after. schedule_from over policy (now.number + 1) after (p ∷ ps))) (step_long policy line long)
 
     pub long_left : HoldsLongLine text before.room → found ≡ refused_by fault.TooLong
     unfolding schedule_left
@@ -174,16 +174,16 @@ module _ (policy : PolicyNames) (due : Expecting) (before now : LinesState) (lef
       abbrev gives : GivesLine (before.held ++ a.got) before.room now
       gives = answers next_line.Line given
 
-      judged_now : (r : Result Expecting LineFault) → after_line due (parse_step policy line) ≡ r → after_line due (parse_step policy now.line) ≡ r
-      judged_now r is = ap (λ (l : List ℕ). after_line due (parse_step policy l)) (sym line_is_now) ∙ is
+      judged_now : (r : Result Expecting LineFault) → after_line line due (parse_step policy line) ≡ r → after_line now.line due (parse_step policy now.line) ≡ r
+      judged_now r is = ap (λ (l : List ℕ). after_line l due (parse_step policy l)) (sym line_is_now) ∙ is
 
-      refused_for : (why : LineFault) → after_line due (parse_step policy line) ≡ Err why → (says : ScheduleLine) → says ≡ refusal why → reads says
+      refused_for : (why : LineFault) → after_line line due (parse_step policy line) ≡ Err why → (says : ScheduleLine) → says ≡ refusal why → reads says
       refused_for why is = ends_by (Refused now.number part.Script why) (line_judged policy due before now a.got a.number gives (Err why) (judged_now (Err why) is) (left_of left'))
 
       -- it says this
       module _ (said : StepLine) (parsed : parse_step policy line ≡ Ok said) where
-        stands : (w : Option Expecting) → w ≡ step_line due said → after_line due (parse_step policy line) ≡ ok_or w fault.Syntax
-        stands w is = ap (after_line due) parsed ∙ ap (λ (v : Option Expecting). ok_or v fault.Syntax) (sym is)
+        stands : (w : Option Expecting) → w ≡ step_line due said → after_line line due (parse_step policy line) ≡ ok_or w fault.Syntax
+        stands w is = ap (after_line line due) parsed ∙ ap (λ (v : Option Expecting). ok_or v fault.Syntax) (sym is)
 
         pub reads_step : StepMayBePlayed (top_of policy) said → (w : Option Expecting) → w ≡ step_line due said → (after : Expecting) → w ≡ Some after → reads (schedule_line.GoesOn after)
         reads_step plays w is after some = record {
@@ -201,17 +201,17 @@ module _ (policy : PolicyNames) (due : Expecting) (before now : LinesState) (lef
         reads_misplaced w is none = refused_for fault.Syntax (stands w is ∙ ap (λ (v : Option Expecting). ok_or v fault.Syntax) none)
 
       -- it says nothing
-      refused_word : (why : LineFault) {word : LineFault} → why ≡ word → after_line due (parse_step policy line) ≡ Err word → (says : ScheduleLine) → says ≡ refusal why → reads says
+      refused_word : (why : LineFault) {word : LineFault} → why ≡ word → after_line line due (parse_step policy line) ≡ Err word → (says : ScheduleLine) → says ≡ refusal why → reads says
       refused_word why is judged = refused_for why (judged ∙ ap Err (sym is))
 
-      pub reads_refused : (e : LineError) (why : LineFault) → IsFaultOf e why → IsCause (parse_step policy line) e → (says : ScheduleLine) → says ≡ refusal why → reads says
+      pub reads_refused : (e : LineError) (why : LineFault) → IsFaultIn line e why → IsCause (parse_step policy line) e → (says : ScheduleLine) → says ≡ refusal why → reads says
       reads_refused (error.NoMemory m) why word is = absurd word
-      reads_refused error.TooLong why word is = refused_word why word (ap (after_line due) is)
-      reads_refused error.Syntax why word is = refused_word why word (ap (after_line due) is)
-      reads_refused error.BadTag why word is = refused_word why word (ap (after_line due) is)
-      reads_refused error.BadPath why word is = refused_word why word (ap (after_line due) is)
-      reads_refused error.BadLabel why word is = refused_word why word (ap (after_line due) is)
-      reads_refused error.BadCaps why word is = refused_word why word (ap (after_line due) is)
+      reads_refused error.TooLong why word is = refused_word why word (ap (after_line line due) is)
+      reads_refused error.Syntax why word is = refused_word why word (ap (after_line line due) is)
+      reads_refused error.BadTag why word is = refused_word why word (ap (after_line line due) is)
+      reads_refused error.BadPath why word is = refused_word why word (ap (after_line line due) is)
+      reads_refused error.BadLabel why word is = refused_word why word (ap (after_line line due) is)
+      reads_refused error.BadCaps why word is = refused_word why word (ap (after_line line due) is)
 
     -- no line was given
     module _ (given : next ≡ next_line.End) (w : Option Schedule) (is : w ≡ whole due) where

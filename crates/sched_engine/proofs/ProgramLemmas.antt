@@ -14,8 +14,9 @@ use Rattle.kern_model.proofs.KeyLaws.{pid_cmp_total}
 use Rattle.lab_lattice.specs.Label.{Label}
 use Rattle.script_text.specs.declared.step.ProgStep.{ProgStep}
 use Rattle.sched_progs.specs.declared.program.Program.{Program}
-use Rattle.kern_model.specs.Arguments.{is_call}
-use Rattle.sched_progs.specs.Programs.{Programs, are_programs, call_passes}
+use Rattle.kern_model.specs.declared.calls.Call.{Call}
+use Rattle.kern_model.specs.Arguments.{has_names, is_call}
+use Rattle.sched_progs.specs.Programs.{Programs, are_programs, call_passes, calls_pass, have_names}
 use Rattle.sched_engine.specs.declared.programs.TheConstants.{MAX_STEPS}
 use Rattle.sched_engine.specs.Programs.{AreOwners, are_distinct, has_program, program_of, with_program, with_step}
 
@@ -147,42 +148,44 @@ module _ (programs earlier : Programs) (last : Option (Pid × Program)) (who : P
   step_refused items same full =
       sym (at_last ∙ ap (λ b. cond b (Some (earlier ++ program_of who (steps ++ made ∷ []) ∷ [])) None) (le-ltb (length steps) MAX_STEPS (subst (λ (ms : List ProgStep). MAX_STEPS ≤ length ms) same full)))
 
--- what it keeps of the programs
-record StepKeeps (top : Label) (programs more : Programs) : Type 0 where
+-- what it keeps of the programs, where the calls of the step pass a test
+record StepKeeps (test : Call → Bool) (programs more : Programs) : Type 0 where
   has : (q : Pid) → has_program more q ≡ has_program programs q
   distinct : are_distinct more ≡ are_distinct programs
-  plays : are_programs top programs ≡ true → are_programs top more ≡ true
+  passes : calls_pass test programs ≡ true → calls_pass test more ≡ true
 
-step_keeps : (top : Label) (made : ProgStep) → call_passes (is_call top) made ≡ true → (programs : Programs) → IfSome (with_step programs made) (StepKeeps top programs)
-step_keeps top made may [] = tt
-step_keeps top made may (p ∷ []) = where_true (nat_lt (length p.1.steps) MAX_STEPS) _ (StepKeeps top (p ∷ [])) (λ t. record {
-  has = λ q. refl;
-  distinct = refl;
-  plays = λ all. and_from _ true (all_end (call_passes (is_call top)) p.1.steps made (and_parts (list_all (call_passes (is_call top)) p.1.steps) true all).0 may) refl;
-})
-step_keeps top made may (p ∷ e ∷ ps) = kept (with_step (e ∷ ps) made) (step_keeps top made may (e ∷ ps))
-  where
-    kept : (w : Option Programs) → IfSome w (StepKeeps top (e ∷ ps)) → IfSome (option_map (λ (more : Programs). p ∷ more) w) (StepKeeps top (p ∷ e ∷ ps))
-    kept None k = tt
-    kept (Some more) k = record {
-      has = λ q. ap (λ b. same_pid p.0 q || b) (k.has q);
-      distinct = (λ i. not (k.has p.0 i) && k.distinct i);
-      plays = λ all. let both = and_parts (list_all (call_passes (is_call top)) p.1.steps) (are_programs top (e ∷ ps)) all in and_from (list_all (call_passes (is_call top)) p.1.steps) (are_programs top more) both.0 (k.plays both.1);
-    }
+module _ (test : Call → Bool) (made : ProgStep) (may : call_passes test made ≡ true) where
+  step_keeps : (programs : Programs) → IfSome (with_step programs made) (StepKeeps test programs)
+  step_keeps [] = tt
+  step_keeps (p ∷ []) = where_true (nat_lt (length p.1.steps) MAX_STEPS) _ (StepKeeps test (p ∷ [])) (λ t. record {
+    has = λ q. refl;
+    distinct = refl;
+    passes = λ all. and_from _ true (all_end (call_passes test) p.1.steps made (and_parts (list_all (call_passes test) p.1.steps) true all).0 may) refl;
+  })
+  step_keeps (p ∷ e ∷ ps) = kept (with_step (e ∷ ps) made) (step_keeps (e ∷ ps))
+    where
+      kept : (w : Option Programs) → IfSome w (StepKeeps test (e ∷ ps)) → IfSome (option_map (λ (more : Programs). p ∷ more) w) (StepKeeps test (p ∷ e ∷ ps))
+      kept None k = tt
+      kept (Some more) k = record {
+        has = λ q. ap (λ b. same_pid p.0 q || b) (k.has q);
+        distinct = (λ i. not (k.has p.0 i) && k.distinct i);
+        passes = λ all. let both = and_parts (list_all (call_passes test) p.1.steps) (calls_pass test (e ∷ ps)) all in and_from (list_all (call_passes test) p.1.steps) (calls_pass test more) both.0 (k.passes both.1);
+      }
 
 -- ---- what may be played
 
 -- programs that may be played, of which no process has two
 pub record MayRun (top : Label) (programs : Programs) : Type 0 where
   pub plays : are_programs top programs ≡ true
+  pub names : have_names programs ≡ true
   pub distinct : are_distinct programs ≡ true
 
-pub step_may_run : (top : Label) (made : ProgStep) → call_passes (is_call top) made ≡ true → (programs : Programs) → MayRun top programs → IfSome (with_step programs made) (MayRun top)
-step_may_run top made may programs run = with_it (with_step programs made) (step_keeps top made may programs)
+pub step_may_run : (top : Label) (made : ProgStep) → call_passes (is_call top) made ≡ true → call_passes has_names made ≡ true → (programs : Programs) → MayRun top programs → IfSome (with_step programs made) (MayRun top)
+step_may_run top made may named programs run = with_it (with_step programs made) (step_keeps (is_call top) made may programs) (step_keeps has_names made named programs)
   where
-    with_it : (w : Option Programs) → IfSome w (StepKeeps top programs) → IfSome w (MayRun top)
-    with_it None k = tt
-    with_it (Some more) k = record { plays = k.plays run.plays; distinct = k.distinct ∙ run.distinct }
+    with_it : (w : Option Programs) → IfSome w (StepKeeps (is_call top) programs) → IfSome w (StepKeeps has_names programs) → IfSome w (MayRun top)
+    with_it None k n = tt
+    with_it (Some more) k n = record { plays = k.passes run.plays; names = n.passes run.names; distinct = k.distinct ∙ run.distinct }
 
 distinct_end : (programs : Programs) (who : Pid) → are_distinct programs ≡ true → has_program programs who ≡ false → are_distinct (programs ++ program_of who [] ∷ []) ≡ true
 distinct_end [] who distinct none = refl
@@ -196,5 +199,6 @@ distinct_end (p ∷ ps) who distinct none =
 pub program_may_run : (top : Label) (programs : Programs) (who : Pid) → MayRun top programs → IfSome (with_program programs who) (MayRun top)
 program_may_run top programs who run = where_false (has_program programs who) _ (MayRun top) (λ none. record {
   plays = all_end (λ (p : Pid × Program). list_all (call_passes (is_call top)) p.1.steps) programs (program_of who []) run.plays refl;
+  names = all_end (λ (p : Pid × Program). list_all (call_passes has_names) p.1.steps) programs (program_of who []) run.names refl;
   distinct = distinct_end programs who run.distinct none;
 })

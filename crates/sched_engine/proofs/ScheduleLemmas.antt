@@ -3,7 +3,7 @@ use Rattle.std.proofs.Common.{◌≡◌, ℕ, ◌*◌, true, List, [], length, r
 use Rattle.std.specs.Prelude.{nat_le, option_map, IfSome}
 use Rattle.std.proofs.lemmas.Bool.{and_parts, leb-true}
 use Rattle.lab_lattice.specs.Label.{Label}
-use Rattle.kern_model.specs.Arguments.{is_call}
+use Rattle.kern_model.specs.Arguments.{has_names, is_call}
 use Rattle.script_text.specs.declared.step.ProgStep.{ProgStep}
 use Rattle.script_text.specs.declared.step.ProgStep.TheVariants as step
 use Rattle.script_text.specs.declared.step.StepLine.{StepLine}
@@ -24,14 +24,19 @@ made_plays top (step.Do call) may = may.0
 made_plays top (step.Jump when to) may = refl
 made_plays top step.Stop may = refl
 
+made_names : (top : Label) (made : ProgStep) → MayBeMade top made → call_passes has_names made ≡ true
+made_names top (step.Do call) may = may.1
+made_names top (step.Jump when to) may = refl
+made_names top step.Stop may = refl
+
 -- what is due with other programs may be played as they may
 module _ (top : Label) (slices : List Label) (rounds : ℕ) (programs : Programs) (may : MayGoOn top (at.Programs slices rounds programs)) where
   abbrev runs : MayRun top programs
-  runs = record { plays = may.programs; distinct = may.distinct }
+  runs = record { plays = may.programs; names = may.names; distinct = may.distinct }
 
   with_programs : (w : Option Programs) → IfSome w (MayRun top) → IfSome (option_map (at.Programs slices rounds) w) (MayGoOn top)
   with_programs None run = tt
-  with_programs (Some more) run = record { slices = may.slices; rounds = may.rounds; turns = may.turns; programs = run.plays; distinct = run.distinct }
+  with_programs (Some more) run = record { slices = may.slices; rounds = may.rounds; turns = may.turns; programs = run.plays; names = run.names; distinct = run.distinct }
 
 -- what is due after a line may be played
 after_plays : (top : Label) (due : Expecting) (said : StepLine) → StepMayBePlayed top said → MayGoOn top due → IfSome (step_line due said) (MayGoOn top)
@@ -42,7 +47,7 @@ after_plays top (at.Programs slices rounds programs) (line.Slices others) plays 
 after_plays top at.Slices (line.Rounds n) plays may = tt
 after_plays top (at.Rounds slices) (line.Rounds n) plays may = where_true (are_turns slices n) (at.Programs slices n []) (MayGoOn top) (λ t.
     let both = and_parts (nat_le 1 n) (nat_le (n * length slices) MAX_TURNS) t in
-    record { slices = may; rounds = leb-true 1 n both.0; turns = leb-true (n * length slices) MAX_TURNS both.1; programs = refl; distinct = refl })
+    record { slices = may; rounds = leb-true 1 n both.0; turns = leb-true (n * length slices) MAX_TURNS both.1; programs = refl; names = refl; distinct = refl })
 after_plays top (at.Programs slices rounds programs) (line.Rounds n) plays may = tt
 after_plays top at.Slices (line.Program who) plays may = tt
 after_plays top (at.Rounds slices) (line.Program who) plays may = tt
@@ -51,7 +56,7 @@ after_plays top (at.Programs slices rounds programs) (line.Program who) plays ma
 after_plays top at.Slices (line.One made) plays may = tt
 after_plays top (at.Rounds slices) (line.One made) plays may = tt
 after_plays top (at.Programs slices rounds programs) (line.One made) plays may =
-    with_programs top slices rounds programs may (with_step programs made) (step_may_run top made (made_plays top made plays) programs (runs top slices rounds programs may))
+    with_programs top slices rounds programs may (with_step programs made) (step_may_run top made (made_plays top made plays) (made_names top made plays) programs (runs top slices rounds programs may))
 
 pub step_plays : (top : Label) (due : Expecting) (said : StepLine) → MayGoOn top due → StepMayBePlayed top said → (after : Expecting) → step_line due said ≡ Some after → MayGoOn top after
 step_plays top due said may plays after is = subst (λ (w : Option Expecting). IfSome w (MayGoOn top)) is (after_plays top due said plays may)

@@ -1,11 +1,16 @@
 -- A schedule in an input: what it is by its lines, and what is read of it.
-use Rattle.std.specs.Prelude.{◌≡◌, ℕ, ◌+◌, ◌<◌, Bool, true, List, [], ◌∷◌, ◌++◌, length, take, nat_lt, Option, ok_or, Result, Ok, Err, IfOk}
+use Rattle.std.specs.Prelude.{◌≡◌, ℕ, ◌+◌, ◌<◌, ◌&&◌, Bool, true, false, cond, List, [], ◌∷◌, ◌++◌, length, take, nat_lt, Option, Some, ok_or, Result, Ok, Err, IfOk, codes}
 use Rattle.std.specs.Io.KnownBytes.{IsAtEnd}
 use Rattle.fs_path.specs.Split.{pieces}
+use Rattle.fs_path.specs.declared.words.LineWord.{LineWord}
+use Rattle.fs_path.specs.Words.{words_of}
 use Rattle.io_ends.specs.LinesState.{LinesState}
+use Rattle.lab_text.specs.Names.{same_bytes}
 use Rattle.lab_text.specs.Policy.{PolicyNames, top_of}
 use Rattle.line_text.specs.declared.fault.LineFault.{LineFault}
 use Rattle.line_text.specs.declared.fault.LineFault.TheVariants as fault
+use Rattle.script_text.specs.declared.fault.LineError.{LineError}
+use Rattle.script_text.specs.declared.fault.LineError.TheVariants as error
 use Rattle.script_text.specs.declared.step.StepLine.{StepLine}
 use Rattle.script_text.specs.Reading.{Reading, fault_of}
 use Rattle.script_text.specs.Step.{parse_step}
@@ -20,14 +25,30 @@ use Rattle.sched_engine.specs.declared.reading.ScheduleLine.TheVariants as sched
 use Rattle.sched_engine.specs.declared.schedule.Expecting.{Expecting}
 use Rattle.sched_engine.specs.declared.schedule.Expecting.TheVariants as at
 use Rattle.sched_engine.specs.declared.schedule.Schedule.{Schedule}
+use Rattle.sched_engine.specs.declared.schedule.TheConstants.{MAX_SLICES}
 use Rattle.sched_engine.specs.Schedule.{MayGoOn, MayBePlayed, after_step, whole}
 
 -- ---- the schedule of an input
 
--- what is due after a line that was judged alone, or why the line is refused
-abbrev pub after_line : Expecting → Reading StepLine → Result Expecting LineFault
-after_line due (Ok said) = after_step due said
-after_line due (Err e) = Err (fault_of e)
+-- whether words are `slices` and more labels than may have turns
+abbrev pub are_many_slices : Option (List LineWord) → Bool
+are_many_slices (Some (first ∷ labels)) = same_bytes first.bytes (codes "slices") && nat_lt MAX_SLICES (length labels)
+are_many_slices _ = false
+
+-- why a line is refused that was judged alone: too many labels are a fault of form, whichever they are
+abbrev pub fault_in : List ℕ → LineError → LineFault
+fault_in line error.BadLabel = cond (are_many_slices (words_of line)) fault.Syntax fault.BadLabel
+fault_in line e = fault_of e
+
+-- the fault of a refused line; out of memory is none
+abbrev pub IsFaultIn : List ℕ → LineError → LineFault → Type 0
+IsFaultIn line (error.NoMemory m) why = ⊥
+IsFaultIn line e why = why ≡ fault_in line e
+
+-- what is due after a line that was judged alone, or why it is refused
+abbrev pub after_line : List ℕ → Expecting → Reading StepLine → Result Expecting LineFault
+after_line line due (Ok said) = after_step due said
+after_line line due (Err e) = Err (fault_in line e)
 
 -- what follows a line, unless it is refused
 abbrev pub go_on : Result Expecting LineFault → ℕ → (Expecting → Result Schedule InputEnd) → Result Schedule InputEnd
@@ -43,7 +64,7 @@ at_end due n ending = Err ending
 unfoldable pub schedule_from : Bool → PolicyNames → ℕ → Expecting → List (List ℕ) → Result Schedule InputEnd
 schedule_from over policy n due [] = at_end due n Whole
 schedule_from over policy n due (last ∷ []) = at_end due n (last_piece over n last)
-schedule_from over policy n due (line ∷ next ∷ ls) = go_on (after_line due (parse_step policy line)) n (λ after. schedule_from over policy (n + 1) after (next ∷ ls))
+schedule_from over policy n due (line ∷ next ∷ ls) = go_on (after_line line due (parse_step policy line)) n (λ after. schedule_from over policy (n + 1) after (next ∷ ls))
 
 -- ---- what is left at a reader, where these bytes come after those that it holds
 

@@ -8,7 +8,7 @@ use Rattle.line_text.specs.declared.fault.LineFault.TheVariants as fault
 use Rattle.script_text.specs.declared.step.ProgStep.{ProgStep}
 use Rattle.script_text.specs.declared.step.StepLine.{StepLine}
 use Rattle.script_text.specs.declared.step.StepLine.TheVariants as line
-use Rattle.sched_progs.specs.Programs.{are_programs}
+use Rattle.sched_progs.specs.Programs.{are_programs, have_names}
 use Rattle.sched_engine.specs.declared.schedule.Expecting.{Expecting}
 use Rattle.sched_engine.specs.declared.schedule.Expecting.TheVariants as at
 use Rattle.sched_engine.specs.declared.schedule.Schedule.{Schedule}
@@ -70,6 +70,7 @@ pub record MayBePlayed (top : Label) (schedule : Schedule) : Type 0 where
   pub rounds : 1 ≤ schedule.rounds
   pub turns : schedule.rounds * length schedule.slices ≤ MAX_TURNS
   pub programs : are_programs top schedule.programs ≡ true
+  pub names : have_names schedule.programs ≡ true
   pub distinct : are_distinct schedule.programs ≡ true
 
 -- what the lines so far gave may be played

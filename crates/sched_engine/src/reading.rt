@@ -2,14 +2,18 @@
 ghost use Rattle.std.specs.Prelude.{◌≡◌, ℕ, true, IfOk, Ok, Err};
 ghost use Rattle.lab_engine.specs.Counts.{CountsOnce, counts};
 ghost use Rattle.lab_text.specs.Policy.{top_of};
-ghost use Rattle.sched_engine.specs.Reading.{ReadsLine, ReadsSchedule};
+ghost use Rattle.fs_path.specs.Words.{words_of};
+ghost use Rattle.sched_engine.specs.Reading.{IsFaultIn, ReadsLine, ReadsSchedule, are_many_slices};
 ghost use Rattle.sched_engine.specs.Schedule.{MayBePlayed};
 
-use crate::schedule::{Expecting, Schedule};
+use crate::schedule::{Expecting, MAX_SLICES, Schedule};
+use fs_path::words_of;
 use io_ends::{Lines, Next, Source};
+use kern_model::NoMemory;
 use lab_engine::{Fault, InputEnd, Part, Texts};
 use line_text::LineFault;
-use script_text::read_step;
+use script_text::{LineError, read_step};
+use std::alloc::Global;
 
 /// What reading a line of a schedule leads to.
 #[derive(Drop)]
@@ -28,6 +32,31 @@ fn refused(lines: &Lines, why: LineFault) -> ScheduleLine
     ScheduleLine::Ended(Err(ending))
 }
 
+// Whether a line is `slices` with more labels than may have turns.
+fn has_many_slices(alloc: Global, line: &[u8]) -> Result<bool, NoMemory>
+    ensures { IfOk result (λ many. many ≡ are_many_slices (words_of line.now)) }
+{
+    let Some(words) = words_of(alloc, line)? else {
+        return Ok(false);
+    };
+    Ok(match words.items() {
+        [first, labels @ ..] => {
+            first.bytes.items() == b"slices".as_slice() && labels.len() > MAX_SLICES
+        }
+        [] => false,
+    })
+}
+
+// Why a line is refused that was judged alone. Too many labels are a fault of form, whichever they are.
+fn fault_in(alloc: Global, line: &[u8], error: LineError) -> Result<LineFault, NoMemory>
+    ensures { IfOk result (IsFaultIn line.now error) }
+{
+    if error == LineError::BadLabel && has_many_slices(alloc, line)? {
+        return Ok(LineFault::Syntax);
+    }
+    error.fault()
+}
+
 // Reads a line of a schedule.
 fn read_schedule_line<S: Source>(
     texts: Texts<'_>,
@@ -40,13 +69,19 @@ fn read_schedule_line<S: Source>(
     ensures counts { (o t : ℕ) → CountsOnce result (counts (S.view source.old).faults o t) (counts (S.view source.new).faults o t) }
 {
     match lines.next(source)? {
-        Next::Line => match read_step(texts.alloc, texts.policy, lines.line()) {
-            Ok(line) => match due.after_step(texts.alloc, line)? {
-                Some(after) => Ok(ScheduleLine::GoesOn(after)),
-                None => Ok(refused(lines, LineFault::Syntax)),
-            },
-            Err(error) => Ok(refused(lines, error.fault()?)),
-        },
+        Next::Line => {
+            let line = lines.line();
+            match read_step(texts.alloc, texts.policy, line) {
+                Ok(said) => match due.after_step(texts.alloc, said)? {
+                    Some(after) => Ok(ScheduleLine::GoesOn(after)),
+                    None => Ok(refused(lines, LineFault::Syntax)),
+                },
+                Err(error) => {
+                    let fault = fault_in(texts.alloc, line, error)?;
+                    Ok(refused(lines, fault))
+                }
+            }
+        }
         Next::End => match due.into_schedule()? {
             Some(schedule) => Ok(ScheduleLine::Ended(Ok(schedule))),
             None => Ok(refused(lines, LineFault::Syntax)),

@@ -22,6 +22,9 @@ returns-in-Check-clause-trail_fault g c = λ is. absurd (no_trail_fault c.check.
 pub returns-in-Upgrade-clause-trail_fault : goal.returns-in-Upgrade-clause-trail_fault
 returns-in-Upgrade-clause-trail_fault g c = λ is. absurd (no_trail_fault c.upgrade.result _ _ _ _ _ (c.upgrade.ensures.did (sink_view None 0)).writes is)
 
+pub returns-in-Least-clause-trail_fault : goal.returns-in-Least-clause-trail_fault
+returns-in-Least-clause-trail_fault g c = λ is. absurd (no_trail_fault c.least.result _ _ _ _ _ (c.least.ensures.did (sink_view None 0)).writes is)
+
 pub returns-in-Select-clause-trail_fault : goal.returns-in-Select-clause-trail_fault
 returns-in-Select-clause-trail_fault g c = λ is. absurd (no_trail_fault c.select.result _ _ _ _ _ (c.select.ensures (sink_view None 0)).writes is)
 

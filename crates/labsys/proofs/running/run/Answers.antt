@@ -1,9 +1,11 @@
 use Rattle.std.proofs.Common.{◌∙◌, refl, sym}
 use Rattle.labsys.proofs.ClauseLemmas.{as_play, as_upgrade, as_view, is_play, is_upgrade, run_counts, run_ending, run_few, run_order, run_play, run_read_fault, run_to_the_end, run_trail_fault, run_upgrade, run_view, run_whole}
+use Rattle.labsys.proofs.ScheduleAnswers.{as_sched, is_sched, run_schedules}
 use Rattle.labsys.proofs.LineageAnswers.{as_lineage, is_lineage, run_lineage}
+use Rattle.labsys.proofs.NarrowedLemmas.{as_least, is_least, run_least}
 use Rattle.labsys.proofs.PerformLemmas.{left_alone}
 use Rattle.labsys.proofs.InputLemmas.{reads_nothing}
-use Rattle.labsys.proofs.UntouchedLemmas.{untouched_alone, untouched_order, untouched_play, untouched_read_fault, untouched_to_the_end, where_named}
+use Rattle.labsys.proofs.UntouchedLemmas.{untouched_alone, untouched_order, untouched_play, untouched_read_fault, untouched_schedule, untouched_to_the_end, untouched_trail_fault, where_named}
 use Rattle.labsys.proofs.running.run.Goals as goal
 
 pub returns-in-Some-clause-left_alone : goal.returns-in-Some-clause-left_alone
@@ -32,6 +34,11 @@ returns-in-Some-clause-play g c = λ play.
     let same = is_play _ _ (sym c.in-Ok.ensures.command ∙ c.in-Some.is) play in
     run_play c.perform.result _ _ _ _ (as_play _ _ _ _ _ _ same c.perform.ensures.did) _ c.status_of.ensures (c.perform.ensures.readable same)
 
+pub returns-in-Some-clause-sched : goal.returns-in-Some-clause-sched
+returns-in-Some-clause-sched g c = λ sched.
+    let same = is_sched _ _ (sym c.in-Ok.ensures.command ∙ c.in-Some.is) sched in
+    run_schedules c.perform.result _ _ _ _ (as_sched _ _ _ _ _ _ same c.perform.ensures.did) _ c.status_of.ensures (c.perform.ensures.programs same)
+
 pub returns-in-Some-clause-view : goal.returns-in-Some-clause-view
 returns-in-Some-clause-view g c = λ word view. run_view word c.perform.result _ _ _ _ (as_view _ _ word _ _ _ _ _ (sym c.in-Ok.ensures.command ∙ c.in-Some.is) view c.perform.ensures.did) _ c.status_of.ensures
 
@@ -43,6 +50,11 @@ pub returns-in-Some-clause-upgrade : goal.returns-in-Some-clause-upgrade
 returns-in-Some-clause-upgrade g c = λ upgrade.
     let same = is_upgrade _ _ (sym c.in-Ok.ensures.command ∙ c.in-Some.is) upgrade in
     run_upgrade c.perform.result _ _ _ _ (as_upgrade _ _ _ _ _ _ same c.perform.ensures.did) _ c.status_of.ensures (c.perform.ensures.back same)
+
+pub returns-in-Some-clause-least : goal.returns-in-Some-clause-least
+returns-in-Some-clause-least g c = λ least.
+    let same = is_least _ _ (sym c.in-Ok.ensures.command ∙ c.in-Some.is) least in
+    run_least c.perform.result _ _ _ _ (as_least _ _ _ _ _ _ same c.perform.ensures.did) _ c.status_of.ensures (c.perform.ensures.narrowed same)
 
 pub returns-in-Some-clause-few : goal.returns-in-Some-clause-few
 returns-in-Some-clause-few g c = run_few _ c.perform.result _ _ _ _ c.perform.ensures.did
@@ -59,7 +71,7 @@ pub returns-in_default-clause-read_fault : goal.returns-in_default-clause-read_f
 returns-in_default-clause-read_fault g c = untouched_read_fault _
 
 pub returns-in_default-clause-trail_fault : goal.returns-in_default-clause-trail_fault
-returns-in_default-clause-trail_fault g c = λ fault. cc
+returns-in_default-clause-trail_fault g c = untouched_trail_fault _
 
 pub returns-in_default-clause-order : goal.returns-in_default-clause-order
 returns-in_default-clause-order g c = untouched_order _ _ _ _
@@ -73,6 +85,9 @@ returns-in_default-clause-ending g c = where_named _ _ (λ command. tt)
 pub returns-in_default-clause-play : goal.returns-in_default-clause-play
 returns-in_default-clause-play g c = λ play. untouched_play _ _ _
 
+pub returns-in_default-clause-sched : goal.returns-in_default-clause-sched
+returns-in_default-clause-sched g c = λ sched. untouched_schedule _ _ _
+
 pub returns-in_default-clause-view : goal.returns-in_default-clause-view
 returns-in_default-clause-view g c = λ word view. record { view_alone = λ l done. cc }
 
@@ -81,6 +96,9 @@ returns-in_default-clause-lineage g c = λ lineage. record { answers = λ done. 
 
 pub returns-in_default-clause-upgrade : goal.returns-in_default-clause-upgrade
 returns-in_default-clause-upgrade g c = λ upgrade. record { upgraded = λ done. cc }
+
+pub returns-in_default-clause-least : goal.returns-in_default-clause-least
+returns-in_default-clause-least g c = λ least. record { narrowed = λ done. cc }
 
 pub returns-in_default-clause-to_the_end : goal.returns-in_default-clause-to_the_end
 returns-in_default-clause-to_the_end g c = untouched_to_the_end _ _

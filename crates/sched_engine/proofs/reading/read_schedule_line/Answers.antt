@@ -16,17 +16,17 @@ returns-in_err-schedule-in-End-clause-counts g c = counts_memory _ c.from_residu
 
 pub returns-in-Some-clause-reads : goal.returns-in-Some-clause-reads
 returns-in-Some-clause-reads g c =
-    reads_step c.args.texts.policy.now c.args.due _ _ _ _ _ c.in_ok-next.ensures.advances c.in-Line.is _ c.line.ensures _ c.in-Ok.ensures.parsed c.in-Ok.ensures.item
+    reads_step c.args.texts.policy.now c.args.due _ _ _ _ _ c.in_ok-next.ensures.advances c.in-Line.is _ c.line-line.ensures _ c.in-Ok.ensures.parsed c.in-Ok.ensures.item
     _ c.in_ok-after-in-Ok.ensures _ c.in-Some.is
 
 pub returns-in-None-clause-reads : goal.returns-in-None-clause-reads
 returns-in-None-clause-reads g c =
-    reads_misplaced c.args.texts.policy.now c.args.due _ _ _ _ _ c.in_ok-next.ensures.advances c.in-Line.is _ c.line.ensures _ c.in-Ok.ensures.parsed
+    reads_misplaced c.args.texts.policy.now c.args.due _ _ _ _ _ c.in_ok-next.ensures.advances c.in-Line.is _ c.line-line.ensures _ c.in-Ok.ensures.parsed
     _ c.in_ok-after-in-Ok.ensures c.in-None.is _ c.refused.ensures
 
 pub returns-in_ok-fault-in-Err-clause-reads : goal.returns-in_ok-fault-in-Err-clause-reads
 returns-in_ok-fault-in-Err-clause-reads g c =
-    reads_refused c.args.texts.policy.now c.args.due _ _ _ _ _ c.in_ok-next.ensures.advances c.in-Line.is _ c.line.ensures c.in-Err.error _ c.in_ok-fault-in-Err.ensures.fault c.in-Err.ensures.cause _ c.refused-in-Err.ensures
+    reads_refused c.args.texts.policy.now c.args.due _ _ _ _ _ c.in_ok-next.ensures.advances c.in-Line.is _ c.line-line.ensures c.in-Err.error _ c.in_ok-fault-in-Err.ensures c.in-Err.ensures.cause _ c.refused-in-Err.ensures
 
 pub returns-in-Some-2-clause-reads : goal.returns-in-Some-2-clause-reads
 returns-in-Some-2-clause-reads g c = reads_whole c.args.texts.policy.now c.args.due _ _ _ _ _ c.in_ok-next.ensures.advances c.in-End.is _ c.in_ok-schedule-in-End.ensures _ c.in-Some-2.is
