@@ -10,3 +10,8 @@ either_way (Err e) f g a b = g b
 -- what holds of an answer holds of its equal
 pub same_err : {X E : Type 0} (P : Type 0) (r s : Result X E) → r ≡ s → OnErr s P → OnErr r P
 same_err P r s e h = subst (λ r. OnErr r P) (sym e) h
+
+-- what follows from two facts of an answer
+pub both_ok : {X E A B P : Type 0} (r : Result X E) → (A → B → P) → OnOk r A → OnOk r B → OnOk r P
+both_ok (Ok x) f a b = f a b
+both_ok (Err e) f a b = tt

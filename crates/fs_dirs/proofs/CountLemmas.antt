@@ -93,6 +93,13 @@ module _ {K X : Type 0} {R : K → K → Ordering} (o : IsTotalOrder R) where
         | false ↦ λ _. refl
       ] refl)
 
+  -- what is set may be removed before
+  insert-removed : IsAntisymmetric R → (m : FinMap R X) (k : K) (x : X) → table.insert (table.remove m k) k x ≡ table.insert m k x
+  insert-removed exact m k x = same_map o exact _ _ (λ q.
+      get-insert o (table.remove m k) k x q ∙ ap (cond (eq_by_cmp R q k) (Some x)) (get-remove o m k q)
+      ∙ elim (eq_by_cmp R q k) as (λ b. cond b (Some x) (cond b None (table.get m q)) ≡ cond b (Some x) (table.get m q)) [ true ↦ refl | false ↦ refl ]
+      ∙ sym (get-insert o m k x q))
+
 module _ {K X : Type 0} {R : K → K → Ordering} (p : K → X → Bool) where
   -- some entry passes where the number of those that do is not 0
   pub any_entry-count : (m : FinMap R X) → any_entry p m ≡ not (count_entries p m == 0)
@@ -117,6 +124,10 @@ module _ {K X : Type 0} {R : K → K → Ordering} (p : K → X → Bool) where
       -- an entry that goes counted where it passes
       pub count_entries-remove : (m : FinMap R X) (k : K) (x : X) → table.get m k ≡ Some x → count_entries p m ≡ cond (p k x) 1 0 + count_entries p (table.remove m k)
       count_entries-remove m k x e = ap (count_entries p) (sym (insert-remove o exact m k x e)) ∙ count_entries-insert (table.remove m k) k x (get-remove_same o m k)
+
+      -- an entry that is set counts where it passes, beside those at other keys
+      pub count_entries-set : (m : FinMap R X) (k : K) (x : X) → count_entries p (table.insert m k x) ≡ cond (p k x) 1 0 + count_entries p (table.remove m k)
+      count_entries-set m k x = ap (count_entries p) (sym (insert-removed o exact m k x)) ∙ count_entries-insert (table.remove m k) k x (get-remove_same o m k)
 
   -- and where none passes, none is
   pub none_passing : (m : FinMap R X) → count_entries p m ≡ 0 → list.find (λ (e : K × X). p e.0 e.1) (table.entries m) ≡ None

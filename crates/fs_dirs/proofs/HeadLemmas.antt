@@ -12,6 +12,7 @@ use Rattle.std.specs.List.{list_all}
 use Rattle.std.proofs.lemmas.Bool.{cases_lt}
 use Rattle.std.proofs.lemmas.Bool.Decides.{nat_tests}
 use Rattle.std.proofs.lemmas.Cmp.{nat_list_cmp_total, ranked}
+use Rattle.fs_path.specs.Name.{is_name, is_name_byte}
 use Rattle.fs_dirs.specs.Head.{head, head_of, are_bytes}
 
 -- a power is 256 times the one before
@@ -191,3 +192,57 @@ by_digits p a b c d low_b low_d = elim (cases_lt a c) [
 -- a list of at most eight bytes has none after them
 pub no_second : (bytes : List ℕ) → length bytes ≤ 8 → head 8 (drop 8 bytes) ≡ 0
 no_second bytes short = ap (head 8) (drop_all 8 bytes short) ∙ no_head 8
+
+-- ---- names with one head
+-- the bytes of a name are bytes that a name may have
+named : (bytes : List ℕ) → is_name bytes ≡ true → list_all is_name_byte bytes ≡ true
+unfolding is_name
+named bytes h = grind (arith, h)
+
+-- which are not 0
+first_named : (x : ℕ) (bytes : List ℕ) → list_all is_name_byte (x ∷ bytes) ≡ true → 0 < x
+first_named zero bytes h = cc
+first_named (suc x) bytes h = omega arith
+
+rest_named : (x : ℕ) (bytes : List ℕ) → list_all is_name_byte (x ∷ bytes) ≡ true → list_all is_name_byte bytes ≡ true
+rest_named x bytes h = elim (is_name_byte x) as (λ b. b && list_all is_name_byte bytes ≡ true → list_all is_name_byte bytes ≡ true) [
+  | true ↦ λ t. t
+  | false ↦ λ f. cc
+] h
+
+-- a number with a digit above 0 is above 0
+some_digit : (x p r : ℕ) → 0 < x → 1 ≤ p → 0 ≡ x * p + r → ⊥
+some_digit x p r h one same =
+    let more : p * 1 ≤ p * x = mul-le-mul_left p h in
+    omega (arith, more)
+
+-- numbers with different first digits differ
+apart : (x y p r s : ℕ) → x < y → r < p → x * p + r ≡ y * p + s → ⊥
+apart x y p r s h less same =
+    let more : p * suc x ≤ p * y = mul-le-mul_left p h in
+    omega (arith, more)
+
+-- lists without a 0 that have one head are one, where one of them is shorter than the head
+same_head : (n : ℕ) (a b : List ℕ) → are_bytes a ≡ true → are_bytes b ≡ true → list_all is_name_byte a ≡ true → list_all is_name_byte b ≡ true → length b < n → head n a ≡ head n b → slice_cmp nat_cmp a b ≡ Equal
+unfolding head
+same_head zero a b h i k l short same = absurd (omega arith)
+same_head (suc n) [] [] h i k l short same = refl
+same_head (suc n) [] (y ∷ b) h i k l short same = absurd (some_digit y (256 ^ n) (head n b) (first_named y b l) (some n) same)
+same_head (suc n) (x ∷ a) [] h i k l short same = absurd (some_digit x (256 ^ n) (head n a) (first_named x a k) (some n) (sym same))
+same_head (suc n) (x ∷ a) (y ∷ b) h i k l short same = elim (cases_lt x y) [
+  | inl less ↦ absurd (apart x y (256 ^ n) (head n a) (head n b) less (head_below n a (rest_are x a h)) same)
+  | inr most ↦ elim (cases_lt y x) [
+    | inl more ↦ absurd (apart y x (256 ^ n) (head n b) (head n a) more (head_below n b (rest_are y b i)) (sym same))
+    | inr least ↦
+        let one : x ≡ y = omega arith in
+        let times : x * 256 ^ n ≡ y * 256 ^ n = ap (λ z. z * 256 ^ n) one in
+        ap (λ r. ordering_then r (slice_cmp nat_cmp a b)) (sym (nat_cmp_is x y Equal one))
+        ∙ same_head n a b (rest_are x a h) (rest_are y b i) (rest_named x a k) (rest_named y b l) (omega arith) (omega (arith, times, same))
+  ]
+]
+
+-- a name has the head of a short one only where it is the same
+pub same_by_head : (x y : ℕ) (a b : List ℕ) → x ≡ head_of a → y ≡ head_of b → are_bytes a ≡ true → are_bytes b ≡ true → is_name a ≡ true → is_name b ≡ true → length b < 16 → Equal ≡ nat_cmp x y → slice_cmp nat_cmp a b ≡ Equal
+same_by_head x y a b of_a of_b h i k l short order =
+    let one : x ≡ y = ranked x y Equal order in
+    same_head 16 a b h i (named a k) (named b l) short (omega (arith, of_a, of_b, one))

@@ -11,6 +11,5 @@ pub mod MoveLemmas
 pub mod Names
 pub mod SameEntries
 pub mod Sorted
-pub mod SpotLemmas
 pub mod TierLemmas
 pub mod TreeLemmas

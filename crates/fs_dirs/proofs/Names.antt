@@ -1,7 +1,7 @@
 -- The entries of one directory: what a look-up finds, and what an edit makes of the map.
 use Rattle.std.proofs.Common.{◌≡◌, ◌+◌, ◌<◌, ◌≤◌, ℕ, List, [], ◌∷◌, length, get_or, set, Some, None, ap, sym, ◌∙◌, arith}
 use Rattle.std.specs.Prelude.{Option, map, not, refl, slice_get}
-use Rattle.std.specs.declared.cmp.Ordering.TheVariants.{Less, Greater}
+use Rattle.std.specs.declared.cmp.Ordering.TheVariants.{Less, Equal, Greater}
 use Rattle.std.specs.Ordering.{eq_by_cmp}
 use Rattle.std.specs.List.{insert, remove}
 use Rattle.std.specs.Option.{option_map}
@@ -56,6 +56,13 @@ module _ (es : List Slot) (sorted : AreSorted es) (name : Name) (from to : ℕ) 
         less = between.less;
         greater = greater_from pair_of nat_list_cmp_total es name middle sorted (holds_at (λ (e : Slot). name_cmp e.entry.value.name name ≡ Greater) es middle there (omega arith) (ap (λ (e : Slot). name_cmp e.entry.value.name name) (sym is) ∙ greater));
       }
+
+-- the name is that of the entry at a place
+pub in_middle : (es : List Slot) (name : Name) (place : ℕ) → place < length es → (there : Slot) → there ≡ get_or es place there → name_cmp there.entry.value.name name ≡ Equal → IsAt es name place
+in_middle es name place within there is same = record {
+  within = within;
+  same = holds_at (λ (e : Slot). name_cmp e.entry.value.name name ≡ Equal) es place there within (ap (λ (e : Slot). name_cmp e.entry.value.name name) (sym is) ∙ same);
+}
 
 module _ (es : List Slot) (sorted : AreSorted es) where
   pub how_many : map.len (directory_of es) ≡ length es

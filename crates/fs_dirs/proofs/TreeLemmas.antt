@@ -10,6 +10,7 @@ use Rattle.std.proofs.lemmas.Bool.{cases_lt}
 use Rattle.fs_path.specs.Name.{Name}
 use Rattle.lab_lattice.specs.Label.{Label, bottom, dominates, label_cmp}
 use Rattle.lab_lattice.proofs.Labels.{label_cmp_total, label_cmp_exact}
+use Rattle.kern_model.specs.declared.limits.TheConstants.{MAX_LINKS}
 use Rattle.kern_model.specs.declared.numbers.Oid.{Oid}
 use Rattle.kern_model.specs.declared.objects.Attr.{Attr}
 use Rattle.kern_model.specs.declared.objects.Body.TheVariants as body
@@ -26,7 +27,7 @@ use Rattle.kern_model.proofs.MapLemmas.{each-entries, each-insert, each-remove, 
 use Rattle.kern_model.proofs.Selections.{count_remove}
 use Rattle.fs_nodes.specs.Nodes.{NodeTable, no_nodes, with_new, with_object, next_in}
 use Rattle.fs_dirs.specs.Entries.{entries_alone, name_count}
-use Rattle.fs_dirs.specs.Tree.{IsNoDir, IsTree, MayBeAdded, TreeView, root_alone, state_of_tree}
+use Rattle.fs_dirs.specs.Tree.{AreEntries, IsNoDir, MayBeAdded, TreeView, root_alone, state_of_tree}
 use Rattle.fs_dirs.proofs.CountLemmas.{count_entries-empty, count_entries-insert}
 use Rattle.fs_dirs.proofs.MoveLemmas.{no_more}
 
@@ -69,19 +70,20 @@ module _ (objects : FinMap oid_cmp Object) (id : Oid) (old o : Object) (is : map
     | inr e ↦ record { object = o; is = e.1; no_dir = λ k. d.no_dir (ap (λ (x : Object). x.kind) (some_same d.object old (sym d.is ∙ ap (map.get objects) e.0 ∙ is)) ∙ sym same ∙ k) }
   ]
 
-pub tree_with_object : (table : NodeTable) (t : FinMap spot_cmp Oid) → IsTree table t → (id : Oid) (old o : Object) → map.get table.objects id ≡ Some old → o.kind ≡ old.kind → IsTree (with_object table id o) t
+pub tree_with_object : (table : NodeTable) (t : FinMap spot_cmp Oid) → AreEntries table t → (id : Oid) (old o : Object) → map.get table.objects id ≡ Some old → o.kind ≡ old.kind → AreEntries (with_object table id o) t
 tree_with_object table t tree id old o is same = record {
   drawn_already = λ q x e. elim (set_at table.objects id o q x e) [
     | inl f ↦ tree.drawn_already q old (ap (map.get table.objects) f.0 ∙ is)
     | inr f ↦ tree.drawn_already q x f
   ];
   dirs = λ spot at e. still_dir table.objects id old o is same spot.0 (tree.dirs spot at e);
+  few = tree.few;
   single = λ q several. still_no_dir table.objects id old o is same q (tree.single q several);
 }
 
 -- an object that is there becomes another one, of the same kind
-pub tree_set : {table after : NodeTable} {t : FinMap spot_cmp Oid} (id : Oid) (becomes : Object → Object) (o : Object) → IsTree table t → map.get table.objects id ≡ Some o → (becomes o).kind ≡ o.kind → after ≡ with_object table id (becomes o) → IsTree after t
-tree_set {table} {after} {t} id becomes o tree is same made = subst (λ (x : NodeTable). IsTree x t) (sym made) (tree_with_object table t tree id o (becomes o) is same)
+pub tree_set : {table after : NodeTable} {t : FinMap spot_cmp Oid} (id : Oid) (becomes : Object → Object) (o : Object) → AreEntries table t → map.get table.objects id ≡ Some o → (becomes o).kind ≡ o.kind → after ≡ with_object table id (becomes o) → AreEntries after t
+tree_set {table} {after} {t} id becomes o tree is same made = subst (λ (x : NodeTable). AreEntries x t) (sym made) (tree_with_object table t tree id o (becomes o) is same)
 
 -- an object is made
 module _ (table : NodeTable) (label : Label) (o : Object) (drawn_already : (id : Oid) (x : Object) → map.get table.objects id ≡ Some x → id.n ≤ last_drawn table.numbers id.label) where
@@ -118,27 +120,31 @@ module _ (table : NodeTable) (label : Label) (o : Object) (drawn_already : (id :
     | inr f ↦ let low = drawn_already q x f in let more = more_drawn q.label in omega (arith, low, more)
   ]
 
-pub tree_with_new : (table : NodeTable) (t : FinMap spot_cmp Oid) → IsTree table t → (label : Label) (o : Object) → IsTree (with_new table label o) t
+pub tree_with_new : (table : NodeTable) (t : FinMap spot_cmp Oid) → AreEntries table t → (label : Label) (o : Object) → AreEntries (with_new table label o) t
 tree_with_new table t tree label o = record {
   drawn_already = made_drawn table label o tree.drawn_already;
   dirs = λ spot at e. let d = tree.dirs spot at e in record { object = d.object; is = still_there table label o tree.drawn_already spot.0 d.object d.is; dir = d.dir };
+  few = tree.few;
   single = λ q several. let d = tree.single q several in record { object = d.object; is = still_there table label o tree.drawn_already q d.object d.is; no_dir = d.no_dir };
 }
 
 -- ---- the entries
+-- where there is no entry, no object has a name
+no_names : (t : FinMap spot_cmp Oid) → t ≡ map.empty → (q : Oid) → name_count t q ≡ 0
+no_names t none q = ap (λ (m : FinMap spot_cmp Oid). name_count m q) none ∙ count_entries-empty spot_cmp (λ (spot : Spot) (at : Oid). same_oid at q)
+
 -- the root alone has no entry
-pub tree_alone : (attr : Attr) (t : FinMap spot_cmp Oid) → t ≡ map.empty → IsTree (root_alone attr) t
+pub tree_alone : (attr : Attr) (t : FinMap spot_cmp Oid) → t ≡ map.empty → AreEntries (root_alone attr) t
 tree_alone attr t none = record {
   drawn_already = subst (λ (table : NodeTable). (id : Oid) (o : Object) → map.get table.objects id ≡ Some o → id.n ≤ last_drawn table.numbers id.label) (root_made attr)
       (made_drawn no_nodes bottom (object_with bottom attr body.Dir) (λ id o e. absurd (never_some (map.get map.empty id) o (get-empty oid_cmp id) e)));
   dirs = λ spot at e. absurd (never_some (map.get t spot) at (ap (λ (m : FinMap spot_cmp Oid). map.get m spot) none ∙ get-empty spot_cmp spot) e);
-  single = λ q several.
-      let empty : name_count t q ≡ 0 = ap (λ (m : FinMap spot_cmp Oid). name_count m q) none ∙ count_entries-empty spot_cmp (λ (spot : Spot) (at : Oid). same_oid at q) in
-      absurd (omega (arith, empty, several));
+  few = λ q. let empty = no_names t none q in omega (arith, empty);
+  single = λ q several. let empty = no_names t none q in absurd (omega (arith, empty, several));
 }
 
 -- an object that gets one more name and has several from then on is no directory
-several_no_dir : (v : TreeView) → IsTree v.nodes.table v.entries → (dir : Oid) (name : Name) (id : Oid) → MayBeAdded (state_of_tree v) id → map.get v.entries (dir, name) ≡ None → (q : Oid) → 1 < name_count (map.insert v.entries (dir, name) id) q → IsNoDir v.nodes.table.objects q
+several_no_dir : (v : TreeView) → AreEntries v.nodes.table v.entries → (dir : Oid) (name : Name) (id : Oid) → MayBeAdded (state_of_tree v) id → map.get v.entries (dir, name) ≡ None → (q : Oid) → 1 < name_count (map.insert v.entries (dir, name) id) q → IsNoDir v.nodes.table.objects q
 several_no_dir v tree dir name id may absent q several =
     let counted = count_entries-insert (λ (spot : Spot) (at : Oid). same_oid at q) spot_cmp_total v.entries (dir, name) id absent in
     elim (same_oid id q) as (λ b. same_oid id q ≡ b → IsNoDir v.nodes.table.objects q) [
@@ -155,29 +161,46 @@ several_no_dir v tree dir name id may absent q several =
           tree.single q (omega (arith, counted, none, several))
     ] refl
 
-pub tree_added : (v : TreeView) → IsTree v.nodes.table v.entries → (dir : Oid) (name : Name) (id : Oid) → IsDir v.nodes.table.objects dir → MayBeAdded (state_of_tree v) id → map.get v.entries (dir, name) ≡ None → IsTree v.nodes.table (map.insert v.entries (dir, name) id)
+-- each object has few names, where one that had fewer gets one more
+few_added : (entries : FinMap spot_cmp Oid) → ((q : Oid) → name_count entries q ≤ MAX_LINKS) → (spot : Spot) (id : Oid) → name_count entries id < MAX_LINKS → map.get entries spot ≡ None → (q : Oid) → name_count (map.insert entries spot id) q ≤ MAX_LINKS
+few_added entries few spot id fewer absent q =
+    let counted = count_entries-insert (λ (spot : Spot) (at : Oid). same_oid at q) spot_cmp_total entries spot id absent in
+    let before = few q in
+    elim (same_oid id q) as (λ b. same_oid id q ≡ b → name_count (map.insert entries spot id) q ≤ MAX_LINKS) [
+      | true ↦ λ t.
+          let one : ◌≡◌ {A = ℕ} (cond (same_oid id q) 1 0) 1 = ap (λ b. cond {A = ℕ} b 1 0) t in
+          let same : name_count entries q ≡ name_count entries id = ap (name_count entries) (sym (same_key oid_cmp_exact id q t)) in
+          omega (arith, counted, one, same, fewer)
+      | false ↦ λ f.
+          let none : ◌≡◌ {A = ℕ} (cond (same_oid id q) 1 0) 0 = ap (λ b. cond {A = ℕ} b 1 0) f in
+          omega (arith, counted, none, before)
+    ] refl
+
+pub tree_added : (v : TreeView) → AreEntries v.nodes.table v.entries → (dir : Oid) (name : Name) (id : Oid) → IsDir v.nodes.table.objects dir → MayBeAdded (state_of_tree v) id → map.get v.entries (dir, name) ≡ None → AreEntries v.nodes.table (map.insert v.entries (dir, name) id)
 tree_added v tree dir name id is_dir may absent = record {
   drawn_already = tree.drawn_already;
   dirs = each-insert spot_cmp_total spot_cmp_exact (λ (spot : Spot) (at : Oid). IsDir v.nodes.table.objects spot.0) v.entries tree.dirs (dir, name) id is_dir;
+  few = few_added v.entries tree.few (dir, name) id may.few absent;
   single = several_no_dir v tree dir name id may absent;
 }
 
 -- an entry that goes, if it is there
-pub tree_removed : (table : NodeTable) (t : FinMap spot_cmp Oid) → IsTree table t → (spot : Spot) → IsTree table (map.remove t spot)
+pub tree_removed : (table : NodeTable) (t : FinMap spot_cmp Oid) → AreEntries table t → (spot : Spot) → AreEntries table (map.remove t spot)
 tree_removed table t tree spot = record {
   drawn_already = tree.drawn_already;
   dirs = each-remove spot_cmp_total spot_cmp_exact (λ (spot : Spot) (at : Oid). IsDir table.objects spot.0) t tree.dirs spot;
+  few = λ q. let fewer = count_remove spot_cmp_total spot_cmp_exact (λ (spot : Spot) (at : Oid). same_oid at q) spot t in let before = tree.few q in omega (arith, fewer, before);
   single = λ q several. let fewer = count_remove spot_cmp_total spot_cmp_exact (λ (spot : Spot) (at : Oid). same_oid at q) spot t in tree.single q (omega (arith, fewer, several));
 }
 
 -- an entry that moves
-pub tree_moved : (table : NodeTable) (t : FinMap spot_cmp Oid) → IsTree table t → (dir : Oid) (name : Name) (into : Oid) (new : Name) (id : Oid) → IsDir table.objects into → map.get t (dir, name) ≡ Some id
-    → eq_by_cmp spot_cmp (dir, name) (into, new) ≡ false → IsTree table (map.insert (map.remove t (dir, name)) (into, new) id)
-tree_moved table t tree dir name into new id is_dir there apart = record {
+pub tree_moved : (table : NodeTable) (t : FinMap spot_cmp Oid) → AreEntries table t → (from to : Spot) (id : Oid) → IsDir table.objects to.0 → map.get t from ≡ Some id → AreEntries table (map.insert (map.remove t from) to id)
+tree_moved table t tree from to id is_dir there = record {
   drawn_already = tree.drawn_already;
-  dirs = each-insert spot_cmp_total spot_cmp_exact (λ (spot : Spot) (at : Oid). IsDir table.objects spot.0) (map.remove t (dir, name))
-      (each-remove spot_cmp_total spot_cmp_exact (λ (spot : Spot) (at : Oid). IsDir table.objects spot.0) t tree.dirs (dir, name)) (into, new) id is_dir;
-  single = λ q several. let fewer = no_more t dir name into new id there apart q in tree.single q (omega (arith, fewer, several));
+  dirs = each-insert spot_cmp_total spot_cmp_exact (λ (spot : Spot) (at : Oid). IsDir table.objects spot.0) (map.remove t from)
+      (each-remove spot_cmp_total spot_cmp_exact (λ (spot : Spot) (at : Oid). IsDir table.objects spot.0) t tree.dirs from) to id is_dir;
+  few = λ q. let fewer = no_more t from to id there q in let before = tree.few q in omega (arith, fewer, before);
+  single = λ q several. let fewer = no_more t from to id there q in tree.single q (omega (arith, fewer, several));
 }
 
 -- ---- the directories above one
@@ -189,7 +212,7 @@ all_found P p (y ∷ xs) x h e = elim (p y) as (λ b. cond b (Some y) (find p xs
 ] e
 
 -- what holds an object is a directory
-pub holder_dir : (table : NodeTable) (t : FinMap spot_cmp Oid) → IsTree table t → (id above : Oid) → holder (entries_alone t) id ≡ Some above → IsDir table.objects above
+pub holder_dir : (table : NodeTable) (t : FinMap spot_cmp Oid) → AreEntries table t → (id above : Oid) → holder (entries_alone t) id ≡ Some above → IsDir table.objects above
 unfolding holder
 holder_dir table t tree id above h =
     let each = each-entries spot_cmp_total spot_cmp_exact (λ (spot : Spot) (at : Oid). IsDir table.objects spot.0) t tree.dirs in
@@ -204,7 +227,7 @@ module _ (s t : State) (id : Oid) (label : Label) where
   list_any_same p q (e ∷ es) h = ap (λ b. b || list_any p es) h.0 ∙ ap (λ b. q e || b) (list_any_same p q es h.1)
 
   -- where the same objects and entries are, and each entry stands in a directory that is there, the same labels are above
-  pub above_same : (table : NodeTable) → IsTree table t.entries → s.objects ≡ table.objects → t.objects ≡ table.objects → s.entries ≡ t.entries → is_above_holders t id label ≡ is_above_holders s id label
+  pub above_same : (table : NodeTable) → AreEntries table t.entries → s.objects ≡ table.objects → t.objects ≡ table.objects → s.entries ≡ t.entries → is_above_holders t id label ≡ is_above_holders s id label
   unfolding is_above_holders any_entry
   above_same table tree objects objects' entries =
       let test : State → Spot × Oid → Bool = λ (x : State) (e : Spot × Oid). same_oid e.1 id && not (dominates label (object_at x e.0.0).label) in
@@ -216,7 +239,7 @@ module _ (s t : State) (id : Oid) (label : Label) where
       ap not (list_any_same (test t) (test s) (map.entries t.entries) each ∙ ap (λ (m : FinMap spot_cmp Oid). list_any (test s) (map.entries m)) (sym entries))
 
 -- a directory has one name at most
-pub dir_single : (table : NodeTable) (t : FinMap spot_cmp Oid) → IsTree table t → (id : Oid) → IsDir table.objects id → name_count t id ≤ 1
+pub dir_single : (table : NodeTable) (t : FinMap spot_cmp Oid) → AreEntries table t → (id : Oid) → IsDir table.objects id → name_count t id ≤ 1
 dir_single table t tree id d = elim (cases_lt 1 (name_count t id)) [
   | inl several ↦
       let other = tree.single id several in
@@ -232,12 +255,12 @@ module _ (s : State) (top : Oid) where
 
 -- ---- bytes that wait
 -- an object is changed, but not its kind, and no number is drawn
-pub tree_streamed : (table new : NodeTable) (t : FinMap spot_cmp Oid) → IsTree table t → (id : Oid) (old o : Object) → map.get table.objects id ≡ Some old → o.kind ≡ old.kind → new.objects ≡ map.insert table.objects id o → new.numbers ≡ table.numbers → IsTree new t
+pub tree_streamed : (table new : NodeTable) (t : FinMap spot_cmp Oid) → AreEntries table t → (id : Oid) (old o : Object) → map.get table.objects id ≡ Some old → o.kind ≡ old.kind → new.objects ≡ map.insert table.objects id o → new.numbers ≡ table.numbers → AreEntries new t
 tree_streamed table new t tree id old o is same objects numbers =
     let made : new ≡ with_object table id o = λ i. record { objects = objects i; numbers = numbers i } in
-    subst (λ (x : NodeTable). IsTree x t) (sym made) (tree_with_object table t tree id old o is same)
+    subst (λ (x : NodeTable). AreEntries x t) (sym made) (tree_with_object table t tree id old o is same)
 
-pub tree_same : (table new : NodeTable) (t : FinMap spot_cmp Oid) → IsTree table t → new.objects ≡ table.objects → new.numbers ≡ table.numbers → IsTree new t
+pub tree_same : (table new : NodeTable) (t : FinMap spot_cmp Oid) → AreEntries table t → new.objects ≡ table.objects → new.numbers ≡ table.numbers → AreEntries new t
 tree_same table new t tree objects numbers =
     let made : new ≡ table = λ i. record { objects = objects i; numbers = numbers i } in
-    subst (λ (x : NodeTable). IsTree x t) (sym made) tree
+    subst (λ (x : NodeTable). AreEntries x t) (sym made) tree

@@ -1,12 +1,12 @@
 -- The entries of all directories, and the names that objects have.
-use Rattle.std.specs.Prelude.{◌≡◌, ◌&&◌, ◌<◌, ◌≤◌, ℕ, ◌+◌, Bool, List, [], ◌∷◌, map, Option, None, Some, true, cond, count_by}
+use Rattle.std.specs.Prelude.{◌≡◌, ◌&&◌, ◌<◌, ℕ, ◌+◌, Bool, List, [], ◌∷◌, map, Option, None, Some, true, cond, sum_by}
+use Rattle.std.specs.Coded.{Coded, codes}
 use Rattle.std.specs.List.{flat_map}
 use Rattle.std.specs.FinMap as table
 use Rattle.std.specs.FinMap.{FinMap}
 use Rattle.cap_bits.specs.CapSet.{no_caps}
 use Rattle.fs_path.specs.Name.{Name}
-use Rattle.lab_lattice.specs.Label.{bottom}
-use Rattle.kern_model.specs.declared.limits.TheConstants.{MAX_LINKS}
+use Rattle.lab_lattice.specs.Label.{bottom, label_code}
 use Rattle.kern_model.specs.declared.numbers.Oid.{Oid}
 use Rattle.kern_model.specs.Entries.{link_count}
 use Rattle.kern_model.specs.Keys.{Spot, oid_cmp, same_oid, spot_cmp}
@@ -15,6 +15,7 @@ use Rattle.kern_model.specs.State.{State}
 use Rattle.kern_model.specs.ByNumber.{by_oid}
 use Rattle.kern_model.specs.LabelLists.{Lists, item_at, items_in}
 use Rattle.fs_dirs.specs.Directory.{name_cmp}
+use Rattle.fs_dirs.specs.declared.links.Holder.{Holder}
 use Rattle.fs_dirs.specs.declared.spots.SpotRef.{SpotRef}
 
 -- the spot that is lent
@@ -71,45 +72,48 @@ name_count entries id = link_count (entries_alone entries) id
 abbrev pub count_in : FinMap spot_cmp Oid → Oid → (Oid → Bool) → ℕ
 count_in entries id test = count_entries (λ (spot : Spot) (at : Oid). same_oid at id && test spot.0) entries
 
--- a list has each directory as often as it holds an object
-abbrev pub AreHolders : FinMap spot_cmp Oid → Oid → List Oid → Type 0
-AreHolders entries id dirs = (test : Oid → Bool) → count_by test dirs ≡ count_in entries id test
+-- how many names stand in directories that pass a test
+abbrev pub names_where : (Oid → Bool) → List Holder → ℕ
+names_where test holders = sum_by (λ (h : Holder). cond (test h.dir) (h.further + 1) 0) holders
+
+-- how many names stand in all directories
+abbrev pub names_in_all : List Holder → ℕ
+names_in_all holders = names_where (λ _. true) holders
+
+-- how a directory that holds an object is stored
+pub holder_code : Coded Holder
+holder_code = Prim.hlevel (codes, label_code)
+
+-- a list says how many names of an object stand in the directories that pass a test, whatever the test
+abbrev pub AreHolders : FinMap spot_cmp Oid → Oid → List Holder → Type 0
+AreHolders entries id holders = (test : Oid → Bool) → names_where test holders ≡ count_in entries id test
 
 -- the directories where the names of each object stand
 abbrev pub Holders : Type 0
-Holders = Lists (List Oid)
+Holders = Lists (List Holder)
 
--- those of one object; none where it has none
-abbrev pub dirs_at : Holders → Oid → List Oid
-dirs_at holders id = item_at [] holders (id.label, id.n)
+-- those of one object; none where it has no name
+abbrev pub holders_at : Holders → Oid → List Holder
+holders_at holders id = item_at [] holders (id.label, id.n)
 
 -- one of the names of an object stands in a directory
-abbrev pub IsIn : Oid → List Oid → Type 0
-IsIn dir dirs = 0 < count_by (λ (d : Oid). same_oid d dir) dirs
+abbrev pub IsIn : Oid → List Holder → Type 0
+IsIn dir holders = 0 < names_where (λ (d : Oid). same_oid d dir) holders
 
--- the same directories, and one more
-abbrev pub IsWith : List Oid → Oid → List Oid → Type 0
-IsWith dirs dir more = (test : Oid → Bool) → count_by test more ≡ cond (test dir) 1 0 + count_by test dirs
-
--- the same directories, one of them in place of another one
-abbrev pub IsInPlace : List Oid → Oid → Oid → List Oid → Type 0
-IsInPlace dirs from to others = (test : Oid → Bool) → cond (test from) 1 0 + count_by test others ≡ cond (test to) 1 0 + count_by test dirs
+-- the same names, and one more in a directory
+abbrev pub IsWith : List Holder → Oid → List Holder → Type 0
+IsWith holders dir more = (test : Oid → Bool) → names_where test more ≡ cond (test dir) 1 0 + names_where test holders
 
 -- the same names of all objects, and one more of one object
 abbrev pub HasMore : Holders → Oid → Oid → Holders → Type 0
-HasMore holders id dir more = (q : Oid) (test : Oid → Bool) → count_by test (dirs_at more q) ≡ cond (same_oid id q && test dir) 1 0 + count_by test (dirs_at holders q)
+HasMore holders id dir more = (q : Oid) (test : Oid → Bool) → names_where test (holders_at more q) ≡ cond (same_oid id q && test dir) 1 0 + names_where test (holders_at holders q)
 
 -- the same names of all objects, and one less of an object, if there is one
 abbrev pub HasLess : Holders → Option Oid → Oid → Holders → Type 0
 HasLess holders None dir less = less ≡ holders
 HasLess holders (Some id) dir less = HasMore less id dir holders
 
--- the same names of all objects, one of them in another directory
-abbrev pub HasMoved : Holders → Oid → Oid → Oid → Holders → Type 0
-HasMoved holders id from to after = (q : Oid) (test : Oid → Bool) → cond (same_oid id q && test from) 1 0 + count_by test (dirs_at after q) ≡ cond (same_oid id q && test to) 1 0 + count_by test (dirs_at holders q)
-
--- the index of the names: each object's directories, few of each, and how many entries there are
+-- the index of the names: each object's directories, and how many entries there are
 pub record AreIndexed (entries : FinMap spot_cmp Oid) (holders : Holders) (total : ℕ) : Type 0 where
-  pub holders_are : (id : Oid) → AreHolders entries id (dirs_at holders id)
-  pub few : (id : Oid) → name_count entries id ≤ MAX_LINKS
+  pub holders_are : (id : Oid) → AreHolders entries id (holders_at holders id)
   pub counted : total ≡ table.len entries

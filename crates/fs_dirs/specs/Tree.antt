@@ -61,12 +61,6 @@ pub record IsNoDir (objects : FinMap oid_cmp Object) (id : Oid) : Type 0 where
   pub is : map.get objects id ≡ Some object
   pub no_dir : object.kind ≡ kind.Dir → ⊥
 
--- objects have numbers that were drawn, entries stand in directories, and a directory never has several names
-pub record IsTree (table : NodeTable) (entries : FinMap spot_cmp Oid) : Type 0 where
-  pub drawn_already : (id : Oid) (o : Object) → map.get table.objects id ≡ Some o → id.n ≤ last_drawn table.numbers id.label
-  pub dirs : (spot : Spot) (id : Oid) → map.get entries spot ≡ Some id → IsDir table.objects spot.0
-  pub single : (id : Oid) → 1 < name_count entries id → IsNoDir table.objects id
-
 -- objects have numbers that were drawn, entries stand in directories, an object has few names, and a directory never several
 pub record AreEntries (table : NodeTable) (entries : FinMap spot_cmp Oid) : Type 0 where
   pub drawn_already : (id : Oid) (o : Object) → map.get table.objects id ≡ Some o → id.n ≤ last_drawn table.numbers id.label

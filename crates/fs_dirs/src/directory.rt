@@ -3,7 +3,7 @@ ghost use Rattle.std.specs.Prelude.{◌≡◌, ◌-◌, ◌*◌, ◌^◌, ◌<�
 ghost use Rattle.std.specs.FinMap as map;
 ghost use Rattle.fs_dirs.specs.Directory.{AreSorted, IsAt, IsBetween, IsGap, TakesFewSteps};
 
-use crate::head::Head;
+use crate::head::{Head, is_short};
 use crate::slot::Slot;
 use crate::tiers::Tiers;
 use fs_path::{Name, NameList, NoMemory, Steps};
@@ -66,24 +66,26 @@ impl Directory {
         }
     }
 
-    /// Has a name lead to an object, in place of the one to which it led. Where the name is there, it takes no memory.
-    pub fn insert(&mut self, name: Name, id: Oid) -> Result<(), NoMemory>
+    /// Has a name lead to an object, and returns the one to which it led, if it was there. Then it takes no memory.
+    pub fn insert(&mut self, name: Name, id: Oid) -> Result<Option<Oid>, NoMemory>
         ensures inserted { OnOk result (self.new ≡ map.insert self.old name id) }
+        ensures found { IfOk result (λ led. led ≡ map.get self.old name) }
         ensures err { OnErr result (self.new ≡ self.old) }
         ensures replaced { IsSome (map.get self.old name) → IsOk result }
     {
         match place_of(&self.entries, &name) {
             Ok(place) => {
-                if let Some(slot) = self.entries.get_mut(place) {
-                    slot.lead_to(id);
-                }
+                let Some(slot) = self.entries.get_mut(place) else {
+                    unreachable!();
+                };
+                Ok(Some(slot.lead_to(id)))
             }
             Err(place) => {
                 let slot = Slot::new(self.alloc, name, id)?;
                 self.entries.insert(place, slot)?;
+                Ok(None)
             }
         }
-        Ok(())
     }
 
     /// Removes a name, if it is there, and returns the object to which it led. It takes no memory.
@@ -121,7 +123,7 @@ impl Directory {
 }
 
 // Where a name is among sorted entries, or else where it belongs. From the first head on that is that of the name, the names
-// themselves are compared. Each comparison is counted.
+// themselves are compared, unless the name is short. Each comparison is counted.
 fn search<L: Ledger>(
     entries: &Tiers<Slot>,
     name: &Name,
@@ -139,6 +141,7 @@ fn search<L: Ledger>(
         let middle = low + (high - low) / 2;
         match entries.item(middle).head.compare(&head, steps) {
             Ordering::Less => low = middle + 1,
+            Ordering::Equal if is_short(name) => return Ok(middle),
             Ordering::Equal => return search_by_names(entries, name, low, high, steps),
             Ordering::Greater => high = middle,
         }

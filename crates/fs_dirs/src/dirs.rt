@@ -60,9 +60,16 @@ impl DirectoryList {
         Ok(())
     }
 
-    /// Has a name in the directory at a count lead to an object, in place of the one to which it led.
-    fn insert(&mut self, alloc: Global, n: u16, name: Name, id: Oid) -> Result<(), NoMemory>
+    /// Has a name in the directory at a count lead to an object, and returns the one to which it led, if it was there.
+    fn insert(
+        &mut self,
+        alloc: Global,
+        n: u16,
+        name: Name,
+        id: Oid,
+    ) -> Result<Option<Oid>, NoMemory>
         ensures ok { OnOk result (IsSet map.empty self.old n (map.insert (get_or self.old n map.empty) name id) self.new) }
+        ensures found { IfOk result (λ led. led ≡ map.get (get_or self.old n map.empty) name) }
         ensures err { OnErr result ((m : ℕ) → get_or self.new m map.empty ≡ get_or self.old m map.empty) }
     {
         self.reach(alloc, n)?;
@@ -170,9 +177,10 @@ impl Dirs {
         }
     }
 
-    /// Has a name in a directory lead to an object, in place of the one to which it led.
-    pub fn insert(&mut self, dir: &Oid, name: Name, id: &Oid) -> Result<(), NoMemory>
+    /// Has a name in a directory lead to an object, and returns the one to which it led, if it was there.
+    pub fn insert(&mut self, dir: &Oid, name: Name, id: &Oid) -> Result<Option<Oid>, NoMemory>
         ensures ok { OnOk result (entries_of self.new ≡ map.insert (entries_of self.old) (dir.now, name) id.now) }
+        ensures found { IfOk result (λ led. led ≡ map.get (entries_of self.old) (dir.now, name)) }
         ensures err { OnErr result (entries_of self.new ≡ entries_of self.old) }
     {
         let alloc = self.alloc;
@@ -180,9 +188,9 @@ impl Dirs {
             return list.insert(alloc, dir.n, name, *id);
         }
         let mut list = DirectoryList::new(alloc);
-        list.insert(alloc, dir.n, name, *id)?;
+        let led = list.insert(alloc, dir.n, name, *id)?;
         self.by_label.insert(dir.label, list)?;
-        Ok(())
+        Ok(led)
     }
 
     /// Removes a name from a directory, if it is there, and returns the object to which it led. It takes no memory.

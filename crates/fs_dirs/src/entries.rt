@@ -1,5 +1,5 @@
 // The entries of all directories.
-ghost use Rattle.std.specs.Prelude.{◌≡◌, ◌-◌, ◌<◌, ◌≤◌, ℕ, false, None, Some, IfOk, IsSome, OnErr, OnOk, cond, is_some, slice_get};
+ghost use Rattle.std.specs.Prelude.{◌≡◌, ◌-◌, ◌<◌, ◌≤◌, false, IfOk, IsSome, OnErr, OnOk, cond, is_some, slice_get};
 ghost use Rattle.std.specs.Ordering.{eq_by_cmp};
 ghost use Rattle.std.specs.FinMap as map;
 ghost use Rattle.kern_model.specs.declared.limits.TheConstants.{MAX_LINKS};
@@ -9,7 +9,7 @@ ghost use Rattle.fs_dirs.specs.Directory.{TakesFewSteps};
 ghost use Rattle.fs_dirs.specs.Entries.{AreHolders, entries_alone, objects_in, spot_of};
 
 use crate::dirs::Dirs;
-use crate::links::LinkTable;
+use crate::links::{Holder, LinkTable, count_names, first_dir};
 use crate::spots::SpotRef;
 use fs_path::{Name, NameList, NoMemory, Steps};
 use kern_model::Oid;
@@ -123,11 +123,11 @@ impl Entries {
         self.look_counted(dir, name, &mut steps)
     }
 
-    /// The directories that hold an object, each as often as it has names there.
-    pub fn holders(&self, id: &Oid) -> &[Oid]
+    /// The directories that hold an object, and how many names it has in each.
+    pub fn holders(&self, id: &Oid) -> &[Holder]
         ensures { AreHolders self.now id.now result.now }
     {
-        self.names.dirs(id)
+        self.names.holders(id)
     }
 
     /// The directory that holds an object, if one does, where it has no second name.
@@ -135,32 +135,35 @@ impl Entries {
         requires { link_count (entries_alone self.now) id.now ≤ 1 }
         ensures { result ≡ holder (entries_alone self.now) id.now }
     {
-        self.names.dirs(id).first().copied()
+        first_dir(self.names.holders(id))
     }
 
-    /// How many names an object has.
+    /// How many names an object has, where it has few.
     pub fn name_count(&self, id: &Oid) -> u32
+        requires { link_count (entries_alone self.now) id.now ≤ MAX_LINKS }
         ensures { result ≡ link_count (entries_alone self.now) id.now }
     {
-        self.names.dirs(id).len() as u32
+        count_names(self.names.holders(id))
     }
 
-    /// Adds an entry.
+    /// Has an entry lead to an object, in place of the one to which it led.
     pub fn insert(&mut self, dir: &Oid, name: Name, id: &Oid) -> Result<(), NoMemory>
-        requires absent { map.get self.old (dir.now, name) ≡ None }
-        requires few { link_count (entries_alone self.old) id.now < MAX_LINKS }
         ensures ok { OnOk result (self.new ≡ map.insert self.old (dir.now, name) id.now) }
         ensures err { OnErr result (self.new ≡ self.old) }
     {
-        if self.total == usize::MAX {
+        let Some(more) = self.total.checked_add(1) else {
             return Err(NoMemory);
-        }
+        };
         self.names.add_name(id, dir)?;
-        if let Err(e) = self.dirs.insert(dir, name, id) {
-            self.names.take_name(id, dir);
-            return Err(e);
-        }
-        self.total += 1;
+        let replaced = match self.dirs.insert(dir, name, id) {
+            Ok(replaced) => replaced,
+            Err(e) => {
+                self.names.take_name(id, dir);
+                return Err(e);
+            }
+        };
+        self.names.drop_name(&replaced, dir);
+        self.total = without_one(more, &replaced);
         Ok(())
     }
 
@@ -175,24 +178,19 @@ impl Entries {
         removed
     }
 
-    /// Moves the entry that leads to an object to another spot, in place of the one that is there.
+    /// Removes the entry at a spot, and has that at another one lead to an object, in place of the one to which it led.
     pub fn relocate(
         &mut self,
         from: &SpotRef<'_>,
         to: &SpotRef<'_>,
         id: &Oid,
     ) -> Result<(), NoMemory>
-        requires there { map.get self.old (spot_of from.now) ≡ Some id.now }
-        requires apart { eq_by_cmp spot_cmp (spot_of from.now) (spot_of to.now) ≡ false }
+        requires { eq_by_cmp spot_cmp (spot_of from.now) (spot_of to.now) ≡ false }
         ensures moved { OnOk result (self.new ≡ map.insert (map.remove self.old (spot_of from.now)) (spot_of to.now) id.now) }
         ensures err { OnErr result (self.new ≡ self.old) }
     {
-        let replaced = self.look(to.dir, to.name);
-        self.dirs.insert(to.dir, to.name.copy()?, id)?;
-        self.dirs.remove(from.dir, from.name);
-        self.names.drop_name(&replaced, to.dir);
-        self.names.move_name(id, from.dir, to.dir);
-        self.total = without_one(self.total, &replaced);
+        self.insert(to.dir, to.name.copy()?, id)?;
+        self.remove(from.dir, from.name);
         Ok(())
     }
 }

@@ -1,6 +1,7 @@
 // The head of a name, by which most names can be told apart.
-ghost use Rattle.std.specs.Prelude.{◌≡◌, ◌+◌, slice_index_or, true};
+ghost use Rattle.std.specs.Prelude.{◌≡◌, ◌+◌, length, nat_lt, slice_index_or, true};
 ghost use Rattle.std.specs.Ordering.{nat_cmp};
+ghost use Rattle.fs_path.specs.Name.{is_name};
 ghost use Rattle.fs_dirs.specs.Head.{are_bytes, head, head_of};
 
 use fs_path::{Name, Steps};
@@ -34,6 +35,7 @@ impl Head {
     pub fn of(name: &Name) -> Head
         ensures head { result ≡ head_of name.now }
         ensures bytes { are_bytes name.now ≡ true }
+        ensures name { is_name name.now ≡ true }
     {
         let bytes = name.bytes();
         let second = if bytes.len() <= NUMBER_BYTES {
@@ -54,6 +56,14 @@ impl Head {
     {
         steps.compare(&(self.first, self.second), &(other.first, other.second))
     }
+}
+
+/// Whether a name has fewer bytes than a head, so that no other name has the same head.
+#[tactic(auto, using(std::proofs::lemmas::Bool::Decides::nat_tests))]
+pub fn is_short(name: &Name) -> bool
+    ensures { result ≡ nat_lt (length name.now) 16 }
+{
+    name.bytes().len() < 2 * NUMBER_BYTES
 }
 
 // The number of the first eight bytes, with zeros after their end.

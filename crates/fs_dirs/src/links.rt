@@ -1,9 +1,12 @@
 // Where the names of objects stand.
-ghost use Rattle.std.specs.Prelude.{◌≡◌, ◌<◌, ◌++◌, ◌∷◌, [], ℕ, IfSome, OnErr, OnOk, get_or, length};
+ghost use Rattle.std.specs.Prelude.{◌≡◌, ◌<◌, ◌≤◌, [], ℕ, IfNone, IfSome, OnErr, OnOk, get_or, length, slice_get};
+ghost use Rattle.std.specs.Option.{option_map};
 ghost use Rattle.std.specs.FinMap as map;
+ghost use Rattle.kern_model.specs.declared.limits.TheConstants.{MAX_LINKS};
 ghost use Rattle.kern_model.specs.declared.numbers.Oid.{Oid as Number};
 ghost use Rattle.kern_model.specs.LabelLists.{IsSet};
-ghost use Rattle.fs_dirs.specs.Entries.{HasLess, HasMore, HasMoved, IsIn, IsInPlace, IsWith, dirs_at};
+ghost use Rattle.fs_dirs.specs.declared.links.Holder.{Holder as Held};
+ghost use Rattle.fs_dirs.specs.Entries.{HasLess, HasMore, IsIn, IsWith, holders_at, names_in_all};
 
 use fs_path::NoMemory;
 use kern_model::{LabelMap, Oid};
@@ -11,38 +14,82 @@ use smallvec::SmallVec;
 use std::alloc::Global;
 use std::marker::Model;
 
-/// Where the names of an object stand: each directory as often as it holds the object.
+/// A directory that holds an object, and how many further names the object has there beside the first.
+#[derive(Clone, Copy)]
+pub struct Holder {
+    pub dir: Oid,
+    pub further: u32,
+}
+
+// A `SmallVec` fills its unused places with it.
+impl Default for Holder {
+    ghost use Rattle.std.specs.Prelude.{◌≡◌};
+    ghost use Rattle.lab_lattice.specs.Label.{bottom};
+
+    ghost is_default = { λ holder. holder ≡ record { dir = record { label = bottom; n = 0 }; further = 0 } };
+
+    fn default() -> Holder {
+        Holder {
+            dir: Oid::default(),
+            further: 0,
+        }
+    }
+}
+
+/// The directories that hold an object. Each stands there once.
 #[derive(Drop)]
 pub struct Links {
     // A single directory takes no memory of its own.
-    dirs: SmallVec<Oid, 1>,
+    holders: SmallVec<Holder, 1>,
 }
 
 impl Model for Links {
     ghost use Rattle.std.specs.Prelude.{List};
     ghost use Rattle.std.specs.Coded.{coded_list};
-    ghost use Rattle.kern_model.specs.declared.numbers.Oid.{Oid};
-    ghost use Rattle.kern_model.proofs.StateCode.{oid_code};
+    ghost use Rattle.fs_dirs.specs.declared.links.Holder.{Holder};
+    ghost use Rattle.fs_dirs.specs.Entries.{holder_code};
 
-    ghost Value = { List Oid };
+    ghost Value = { List Holder };
 
-    ghost coded = { coded_list oid_code };
+    ghost coded = { coded_list holder_code };
 
-    ghost view = { λ l. l.dirs.items };
+    ghost view = { λ l. l.holders.items };
 }
 
-// The place of a directory among others.
-fn place_of(dirs: &[Oid], dir: &Oid) -> usize
-    requires { IsIn dir.now dirs.now }
-    ensures within { result < length dirs.now }
-    ensures is { get_or dirs.now result dir.now ≡ dir.now }
+// The place of a directory among others, if it is there.
+fn place_of(holders: &[Holder], dir: &Oid) -> Option<usize>
+    ensures within { IfSome result (λ place. place < length holders.now) }
+    ensures is { IfSome result (λ place. (get_or holders.now place (record { dir = dir.now; further = 0 })).dir ≡ dir.now) }
+    ensures absent { IfNone result (IsIn dir.now holders.now → ⊥) }
 {
-    for place in 0..dirs.len() {
-        if dirs[place].is_same(dir) {
-            return place;
+    for place in 0..holders.len() {
+        if holders[place].dir.is_same(dir) {
+            return Some(place);
         }
     }
-    unreachable!()
+    None
+}
+
+/// The first of some directories, if there is one.
+pub fn first_dir(holders: &[Holder]) -> Option<Oid>
+    ensures { result ≡ option_map (λ (h : Held). h.dir) (slice_get holders.now 0) }
+{
+    match holders.first() {
+        Some(holder) => Some(holder.dir),
+        None => None,
+    }
+}
+
+/// How many names stand in directories, where these are few.
+pub fn count_names(holders: &[Holder]) -> u32
+    requires { names_in_all holders.now ≤ MAX_LINKS }
+    ensures { result ≡ names_in_all holders.now }
+{
+    let mut count = 0;
+    for place in 0..holders.len() {
+        count += holders[place].further + 1;
+    }
+    count
 }
 
 impl Links {
@@ -51,23 +98,33 @@ impl Links {
         ensures { result ≡ [] }
     {
         Links {
-            dirs: SmallVec::new(alloc),
+            holders: SmallVec::new(alloc),
         }
     }
 
     /// The directories.
-    fn dirs(&self) -> &[Oid]
+    fn holders(&self) -> &[Holder]
         ensures { result.now ≡ self.now }
     {
-        self.dirs.as_slice()
+        self.holders.as_slice()
     }
 
-    /// Adds a name.
-    fn push(&mut self, dir: Oid) -> Result<(), NoMemory>
-        ensures ok { OnOk result (self.new ≡ self.old ++ dir ∷ []) }
+    /// Adds a name in a directory.
+    fn push(&mut self, dir: &Oid) -> Result<(), NoMemory>
+        ensures ok { OnOk result (IsWith self.old dir.now self.new) }
         ensures err { OnErr result (self.new ≡ self.old) }
     {
-        self.dirs.push(dir)?;
+        let Some(place) = place_of(&self.holders, dir) else {
+            self.holders.push(Holder {
+                dir: *dir,
+                further: 0,
+            })?;
+            return Ok(());
+        };
+        let Some(further) = self.holders[place].further.checked_add(1) else {
+            return Err(NoMemory);
+        };
+        self.holders[place] = Holder { dir: *dir, further };
         Ok(())
     }
 
@@ -76,20 +133,21 @@ impl Links {
         requires { IsIn dir.now self.old }
         ensures { IsWith self.new dir.now self.old }
     {
-        let place = place_of(&self.dirs, dir);
-        self.dirs.swap_remove(place);
-        if self.dirs.len() == 1 {
-            self.dirs.shrink_to_fit();
+        let Some(place) = place_of(&self.holders, dir) else {
+            unreachable!();
+        };
+        let further = self.holders[place].further;
+        if further > 0 {
+            self.holders[place] = Holder {
+                dir: *dir,
+                further: further - 1,
+            };
+            return;
         }
-    }
-
-    /// Moves a name to another directory.
-    fn put_in_place(&mut self, from: &Oid, to: &Oid)
-        requires { IsIn from.now self.old }
-        ensures { IsInPlace self.old from.now to.now self.new }
-    {
-        let place = place_of(&self.dirs, from);
-        self.dirs[place] = *to;
+        self.holders.swap_remove(place);
+        if self.holders.len() == 1 {
+            self.holders.shrink_to_fit();
+        }
     }
 }
 
@@ -102,12 +160,12 @@ struct LinkList {
 impl Model for LinkList {
     ghost use Rattle.std.specs.Prelude.{List};
     ghost use Rattle.std.specs.Coded.{coded_list};
-    ghost use Rattle.kern_model.specs.declared.numbers.Oid.{Oid};
-    ghost use Rattle.kern_model.proofs.StateCode.{oid_code};
+    ghost use Rattle.fs_dirs.specs.declared.links.Holder.{Holder};
+    ghost use Rattle.fs_dirs.specs.Entries.{holder_code};
 
-    ghost Value = { List (List Oid) };
+    ghost Value = { List (List Holder) };
 
-    ghost coded = { coded_list (coded_list oid_code) };
+    ghost coded = { coded_list (coded_list holder_code) };
 
     ghost view = { λ l. l.links.items };
 }
@@ -122,12 +180,12 @@ impl LinkList {
         }
     }
 
-    /// The directories of the object at a count.
-    fn dirs(&self, n: u16) -> &[Oid]
+    /// The directories that hold the object at a count.
+    fn holders(&self, n: u16) -> &[Holder]
         ensures { result.now ≡ get_or self.now n [] }
     {
         match self.links.get(n as usize) {
-            Some(links) => links.dirs(),
+            Some(links) => links.holders(),
             None => &[],
         }
     }
@@ -144,8 +202,9 @@ impl LinkList {
     }
 
     /// Adds a name of the object at a count.
-    fn add(&mut self, n: u16, dir: Oid) -> Result<(), NoMemory>
-        ensures ok { OnOk result (IsSet [] self.old n (get_or self.old n [] ++ dir ∷ []) self.new) }
+    fn add(&mut self, n: u16, dir: &Oid) -> Result<(), NoMemory>
+        ensures added { OnOk result (IsWith (get_or self.old n []) dir.now (get_or self.new n [])) }
+        ensures others { OnOk result (IsSet [] self.old n (get_or self.new n []) self.new) }
         ensures err { OnErr result ((m : ℕ) → get_or self.new m [] ≡ get_or self.old m []) }
     {
         self.reach(n)?;
@@ -159,15 +218,6 @@ impl LinkList {
         ensures others { IsSet [] self.old n (get_or self.new n []) self.new }
     {
         self.links[n as usize].take_out(dir);
-    }
-
-    /// Moves a name of the object at a count to another directory.
-    fn put_in_place(&mut self, n: u16, from: &Oid, to: &Oid)
-        requires { IsIn from.now (get_or self.old n []) }
-        ensures put { IsInPlace (get_or self.old n []) from.now to.now (get_or self.new n []) }
-        ensures others { IsSet [] self.old n (get_or self.new n []) self.new }
-    {
-        self.links[n as usize].put_in_place(from, to);
     }
 }
 
@@ -183,12 +233,11 @@ impl Model for LinkTable {
     ghost use Rattle.std.specs.FinMap as map;
     ghost use Rattle.std.specs.Coded.{coded_list};
     ghost use Rattle.lab_lattice.specs.Label.{label_code};
-    ghost use Rattle.fs_dirs.specs.Entries.{Holders};
-    ghost use Rattle.kern_model.proofs.StateCode.{oid_code};
+    ghost use Rattle.fs_dirs.specs.Entries.{Holders, holder_code};
 
     ghost Value = { Holders };
 
-    ghost coded = { map.code label_code (coded_list (coded_list oid_code)) };
+    ghost coded = { map.code label_code (coded_list (coded_list holder_code)) };
 
     ghost view = { λ a. a.by_label };
 }
@@ -204,12 +253,12 @@ impl LinkTable {
         }
     }
 
-    /// The directories where the names of an object stand.
-    pub fn dirs(&self, id: &Oid) -> &[Oid]
-        ensures { result.now ≡ dirs_at self.now id.now }
+    /// The directories that hold an object.
+    pub fn holders(&self, id: &Oid) -> &[Holder]
+        ensures { result.now ≡ holders_at self.now id.now }
     {
         match self.by_label.get(&id.label) {
-            Some(list) => list.dirs(id.n),
+            Some(list) => list.holders(id.n),
             None => &[],
         }
     }
@@ -217,20 +266,20 @@ impl LinkTable {
     /// Adds a name of an object in a directory.
     pub fn add_name(&mut self, id: &Oid, dir: &Oid) -> Result<(), NoMemory>
         ensures ok { OnOk result (HasMore self.old id.now dir.now self.new) }
-        ensures err { OnErr result ((q : Number) → dirs_at self.new q ≡ dirs_at self.old q) }
+        ensures err { OnErr result ((q : Number) → holders_at self.new q ≡ holders_at self.old q) }
     {
         if let Some(list) = self.by_label.get_mut(&id.label) {
-            return list.add(id.n, *dir);
+            return list.add(id.n, dir);
         }
         let mut list = LinkList::new(self.alloc);
-        list.add(id.n, *dir)?;
+        list.add(id.n, dir)?;
         self.by_label.insert(id.label, list)?;
         Ok(())
     }
 
     /// Takes the name in a directory from an object. It takes no memory.
     pub fn take_name(&mut self, id: &Oid, dir: &Oid)
-        requires { IsIn dir.now (dirs_at self.old id.now) }
+        requires { IsIn dir.now (holders_at self.old id.now) }
         ensures { HasMore self.new id.now dir.now self.old }
     {
         let Some(list) = self.by_label.get_mut(&id.label) else {
@@ -241,22 +290,11 @@ impl LinkTable {
 
     /// Takes the name in a directory from an object, if there is one. It takes no memory.
     pub fn drop_name(&mut self, id: &Option<Oid>, dir: &Oid)
-        requires { IfSome id.now (λ id. IsIn dir.now (dirs_at self.old id)) }
+        requires { IfSome id.now (λ id. IsIn dir.now (holders_at self.old id)) }
         ensures { HasLess self.old id.now dir.now self.new }
     {
         if let Some(id) = id {
             self.take_name(id, dir);
         }
-    }
-
-    /// Moves the name in a directory of an object to another one. It takes no memory.
-    pub fn move_name(&mut self, id: &Oid, from: &Oid, to: &Oid)
-        requires { IsIn from.now (dirs_at self.old id.now) }
-        ensures { HasMoved self.old id.now from.now to.now self.new }
-    {
-        let Some(list) = self.by_label.get_mut(&id.label) else {
-            unreachable!();
-        };
-        list.put_in_place(id.n, from, to);
     }
 }

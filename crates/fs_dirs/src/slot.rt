@@ -1,5 +1,6 @@
 // An entry of a directory, with the head of its name.
 ghost use Rattle.std.specs.Prelude.{◌≡◌, true};
+ghost use Rattle.fs_path.specs.Name.{is_name};
 ghost use Rattle.fs_dirs.specs.Head.{are_bytes, head_of};
 
 use crate::head::Head;
@@ -21,6 +22,7 @@ pub struct Slot {
     pub entry: Box<Entry>,
     ghost head_is: { head ≡ head_of entry.value.name },
     ghost bytes: { are_bytes entry.value.name ≡ true },
+    ghost name: { is_name entry.value.name ≡ true },
 }
 
 impl Slot {
@@ -35,10 +37,13 @@ impl Slot {
         Ok(Slot { head, entry })
     }
 
-    /// Has the name lead to another object.
-    pub fn lead_to(&mut self, id: Oid)
-        ensures { self.new.entry.value ≡ record { name = self.old.entry.value.name; id = id } }
+    /// Has the name lead to another object, and returns the one to which it led.
+    pub fn lead_to(&mut self, id: Oid) -> Oid
+        ensures led { result ≡ self.old.entry.value.id }
+        ensures leads { self.new.entry.value ≡ record { name = self.old.entry.value.name; id = id } }
     {
+        let led = self.entry.id;
         self.entry.id = id;
+        led
     }
 }

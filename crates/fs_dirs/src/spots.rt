@@ -1,17 +1,14 @@
-// The spots of entries, and entries that stand in no directory yet.
-ghost use Rattle.std.specs.Prelude.{◌≡◌, ◌≤◌, IfOk, OnOk};
+// The spots of entries, and the entries that are loaded.
+ghost use Rattle.std.specs.Prelude.{◌≡◌, OnOk};
 ghost use Rattle.std.specs.FinMap as map;
 ghost use Rattle.std.specs.Ordering.{eq_by_cmp};
 ghost use Rattle.kern_model.specs.Keys.{spot_cmp};
-ghost use Rattle.kern_model.specs.declared.limits.TheConstants.{MAX_LINKS};
-ghost use Rattle.kern_model.specs.declared.numbers.Oid.{Oid as Number};
-ghost use Rattle.fs_dirs.specs.Entries.{name_count, spot_of};
+ghost use Rattle.fs_dirs.specs.Entries.{spot_of};
 
 use crate::entries::Entries;
 use fs_path::{Name, NoMemory};
 use kern_model::Oid;
 use std::alloc::Global;
-use std::collections::BTreeMap;
 use std::marker::Model;
 
 /// The spot of an entry: the directory that holds it, and its name there.
@@ -37,10 +34,10 @@ impl SpotRef<'_> {
     }
 }
 
-/// Where entries lead that stand in no directory yet.
+/// Where the entries lead that were loaded so far. They stand in their directories already.
 #[derive(Drop)]
 pub struct Spots {
-    entries: BTreeMap<Spot, Oid>,
+    entries: Entries,
 }
 
 impl Model for Spots {
@@ -53,7 +50,7 @@ impl Model for Spots {
 
     ghost coded = { map.code spot_code oid_code };
 
-    ghost view = { λ a. map.from_entries a.entries.entries };
+    ghost view = { λ a. a.entries };
 }
 
 impl Spots {
@@ -62,7 +59,7 @@ impl Spots {
         ensures { result ≡ map.empty }
     {
         Spots {
-            entries: BTreeMap::new(alloc),
+            entries: Entries::new(alloc),
         }
     }
 
@@ -70,27 +67,21 @@ impl Spots {
     pub fn get(&self, spot: &Spot) -> Option<Oid>
         ensures { result ≡ map.get self.now spot.now }
     {
-        self.entries.get(spot).copied()
+        self.entries.look(&spot.0, &spot.1)
     }
 
     /// Has the entry at a spot lead to an object, in place of the one to which it led.
     pub fn set(&mut self, spot: Spot, id: Oid) -> Result<(), NoMemory>
         ensures { OnOk result (self.new ≡ map.insert self.old spot id) }
     {
-        self.entries.insert(spot, id)?;
-        Ok(())
+        let (dir, name) = spot;
+        self.entries.insert(&dir, name, &id)
     }
 
-    // The entries in their directories. They are entered in the order of their spots, so that each is the last one of its directory.
-    pub(crate) fn into_entries(self, alloc: Global) -> Result<Entries, NoMemory>
-        requires { (id : Number) → name_count self id ≤ MAX_LINKS }
-        ensures { IfOk result (λ entries. entries ≡ self) }
+    /// The entries.
+    pub(crate) fn into_entries(self) -> Entries
+        ensures { result ≡ self }
     {
-        let mut entries = Entries::new(alloc);
-        for (spot, id) in self.entries {
-            let (dir, name) = spot;
-            entries.insert(&dir, name, &id)?;
-        }
-        Ok(entries)
+        self.entries
     }
 }

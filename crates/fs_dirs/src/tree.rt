@@ -2,7 +2,6 @@
 ghost use Rattle.std.specs.Prelude.{◌≡◌, ◌↔◌, ◌<◌, ◌≤◌, ◌+◌, true, false, [], None, Err, IfOk, IsErr, IsSome, OnErr, OnOk, length};
 ghost use Rattle.std.specs.List.{list_all};
 ghost use Rattle.std.specs.FinMap as map;
-ghost use Rattle.kern_model.specs.declared.numbers.Oid.{Oid as Number};
 ghost use Rattle.kern_model.specs.Entries.{entry_count, is_empty, is_removed, is_under, link_count, names_in};
 ghost use Rattle.kern_model.specs.FileRows.{written_over};
 ghost use Rattle.kern_model.specs.Kinds.{is_dir, object_with};
@@ -12,12 +11,14 @@ ghost use Rattle.lab_lattice.specs.Label.{dominates};
 ghost use Rattle.kern_model.specs.Valid.{IsDir, IsThere};
 ghost use Rattle.kern_model.specs.declared.limits.TheConstants.{MAX_FILE_BYTES, MAX_OBJECTS};
 ghost use Rattle.fs_nodes.specs.Nodes.{IsFile, next_in, with_new};
+ghost use Rattle.fs_dirs.specs.declared.links.Holder.{Holder as Held};
 ghost use Rattle.fs_dirs.specs.Directory.{TakesFewSteps};
 ghost use Rattle.fs_dirs.specs.Tree.{AreEntries, HasObject, IfEntry, IfObject, IsAbsentFromRemoved, MayBeAdded, MayEnterRemoved, root_alone, state_of_tree, with_moved, would_loop};
 
 use crate::NoMemory;
 use crate::below::Below;
 use crate::entries::Entries;
+use crate::links::Holder;
 use crate::spots::{SpotRef, Spots};
 use fs_nodes::{Buffers, NodeError, Nodes, WriteError};
 use fs_path::{Name, NameList, Steps};
@@ -96,7 +97,7 @@ impl Model for Tree {
     ghost use Rattle.std.specs.FinMap as map;
     ghost use Rattle.lab_lattice.specs.Label.{label_code};
     ghost use Rattle.fs_nodes.specs.Nodes.{slots_code};
-    ghost use Rattle.fs_dirs.specs.Tree.{IsTree, TreeView, tree_code};
+    ghost use Rattle.fs_dirs.specs.Tree.{AreEntries, TreeView, tree_code};
     ghost use Rattle.kern_model.proofs.StateCode.{object_code, oid_code, spot_code};
 
     ghost Value = { TreeView };
@@ -105,7 +106,7 @@ impl Model for Tree {
 
     ghost view = { λ t. record { nodes = t.nodes; entries = t.entries } };
 
-    ghost invariant = { λ t. IsTree t.nodes.table t.entries };
+    ghost invariant = { λ t. AreEntries t.nodes.table t.entries };
 }
 
 /// The number of the root directory.
@@ -158,11 +159,10 @@ impl Tree {
         ensures nodes { IfOk result (λ tree. tree.nodes ≡ nodes) }
         ensures entries { IfOk result (λ tree. tree.entries ≡ spots) }
     {
-        let entries = spots.into_entries(alloc)?;
         Ok(Tree {
             alloc,
             nodes,
-            entries,
+            entries: spots.into_entries(),
         })
     }
 
@@ -231,14 +231,16 @@ impl Tree {
         }
     }
 
-    // Whether a label dominates those of all these objects.
-    fn are_below(&self, ids: &[Oid], label: &Label) -> bool
-        ensures { result ≡ list_all (λ (id : Number). dominates label.now (object_at (state_of_tree self.now) id).label) ids.now }
+    // Whether a label dominates those of all these directories.
+    fn are_below(&self, holders: &[Holder], label: &Label) -> bool
+        ensures { result ≡ list_all (λ (h : Held). dominates label.now (object_at (state_of_tree self.now) h.dir).label) holders.now }
     {
-        ids.iter().all(|id| self.is_below(id, label))
+        holders
+            .iter()
+            .all(|holder| self.is_below(&holder.dir, label))
     }
 
-    /// Whether a label dominates those of all directories that hold a name of an object. It looks at the object's names alone. It
+    /// Whether a label dominates those of all directories that hold a name of an object. It looks at each of them once. It
     /// takes no memory.
     pub fn is_above_holders(&self, id: &Oid, label: &Label) -> bool
         ensures { (s : State) → s.objects ≡ self.now.nodes.table.objects → s.entries ≡ self.now.entries → result ≡ is_above_holders s id.now label.now }

@@ -67,8 +67,7 @@ fn give_back(left: &mut Vec<WorldObject>)
     }
 }
 
-/// A state that is being loaded: objects, entries that stand in no directory yet, the bound of capabilities over exec, and the
-/// highest label.
+/// A state that is being loaded: objects, their entries, the bound of capabilities over exec, and the highest label.
 #[derive(Drop)]
 pub struct Loading {
     nodes: Nodes,

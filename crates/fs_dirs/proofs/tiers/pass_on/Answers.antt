@@ -1,8 +1,8 @@
-use Rattle.std.proofs.Common.{◌≡◌, ◌++◌, ◌+◌, ◌∷◌, ◌∙◌, ap, subst, sym, arith, add-one, refl, set}
+use Rattle.std.proofs.Common.{◌≡◌, ◌++◌, ◌+◌, ◌∷◌, ◌∙◌, ap, subst, sym, arith, add-one, refl, get_or, length}
 use Rattle.std.specs.Prelude.{Option, MatchOption, option_to_list}
-use Rattle.std.proofs.lemmas.List.{get_or-set_other, length-set}
+use Rattle.std.proofs.lemmas.List.{get_or-set_other}
 use Rattle.fs_dirs.specs.Tiers.{Tier}
-use Rattle.fs_dirs.proofs.TierLemmas.{same_together, up_together, spare_before}
+use Rattle.fs_dirs.proofs.TierLemmas.{first_there, first_later, first_zeroth, same_together, up_together, spare_before}
 use Rattle.fs_dirs.proofs.tiers.pass_on.Goals as goal
 
 pub returns : goal.returns
@@ -21,6 +21,7 @@ returns g c =
     let small = popped.small in
     record {
       same = same_together items ts c.args.tier (c.args.tier + 1) left c.push_front_reserved.new.self popped next (add-one _) within (up_together _ _ left.items c.push_front_reserved.new.self.items item shorter longer);
-      length = length-set (set ts c.args.tier left) (c.args.tier + 1) c.push_front_reserved.new.self ∙ length-set ts c.args.tier left;
       spare = spare_before ts c.args.tier (c.args.tier + 1) left c.push_front_reserved.new.self popped next item refl c.requires shorter longer (omega arith);
+      first = λ z. (let e = first_zeroth ts c.args.tier left c.push_front_reserved.new.self (omega arith) z in let l = left.ok.0 in let p = popped.ok.0 in let was = first_there ts popped (omega arith) in let s = ap (λ (t : Tier g.row.T.Denot). length t.items) c.index_mut.ensures.value in let k = ap (λ n. length (get_or ts n popped).items) z in omega arith);
+      later = λ p. first_later ts c.args.tier (c.args.tier + 1) left c.push_front_reserved.new.self p (omega arith);
     }

@@ -1,33 +1,38 @@
 use Rattle.std.proofs.Common.{ap, sym, ◌∙◌, subst}
-use Rattle.std.specs.Prelude.{is_some}
+use Rattle.std.specs.Prelude.{Some, is_some}
 use Rattle.std.specs.FinMap as map
 use Rattle.std.proofs.lemmas.Bool.{true≢false}
 use Rattle.fs_dirs.specs.Directory.{AreSorted, IsGap, directory_of}
-use Rattle.fs_dirs.specs.declared.directory.Directory.TheInside.{Inside}
 use Rattle.fs_dirs.specs.declared.slot.Entry.{Entry}
 use Rattle.kern_model.proofs.LabelMaps.{at_some}
-use Rattle.fs_dirs.proofs.Names.{absent, sorted_over, map_over, sorted_added, map_added}
+use Rattle.fs_dirs.proofs.Names.{absent, found, sorted_over, map_over, sorted_added, map_added}
 use Rattle.fs_dirs.proofs.directory.Directory.insert.Goals as goal
-use Rattle.fs_dirs.proofs.directory.Directory.insert.Goals.{in-Some, in_default}
 
 pub invariant_of-self : goal.invariant_of-self
-invariant_of-self c = elim c.match-get_mut.branch [
-  | in-Some w ↦ (let old = w.in-Some.slot.now in
-      let new = w.lead_to.new.self in
-      subst AreSorted (sym (ap (λ (d : Inside). d.entries) w.self-inside-is ∙ at_some w.in-Some.is (c.get_mut.follows.holds new)))
-      (sorted_over c.self.inside.entries c.self.invariant c.args.name c.in-Ok.place c.in-Ok.ensures.found old new w.in-Some.ensures.value c.args.id (ap (λ (e : Entry). (e.name, e.id)) w.lead_to.ensures)))
-  | in_default w ↦ absurd (true≢false (sym (w.in_default.ensures.variant.1 c.in-Ok.ensures.found.within)))
-]
+invariant_of-self c =
+    let new = c.lead_to.new.self in
+    subst AreSorted (sym (at_some c.in-Some.is (c.get_mut.follows.holds new)))
+    (sorted_over c.self.inside.entries c.self.invariant c.args.name c.in-Ok.place c.in-Ok.ensures.found c.in-Some.slot.now new c.in-Some.ensures.value c.args.id (ap (λ (e : Entry). (e.name, e.id)) c.lead_to.ensures.leads))
 
-pub returns-after-get_mut-clause-inserted : goal.returns-after-get_mut-clause-inserted
-returns-after-get_mut-clause-inserted c = elim c.match-get_mut.branch [
-  | in-Some w ↦ (let old = w.in-Some.slot.now in
-      let new = w.lead_to.new.self in
-      ap directory_of (ap (λ (d : Inside). d.entries) w.self-inside-is ∙ at_some w.in-Some.is (c.get_mut.follows.holds new))
-      ∙ map_over c.self.inside.entries c.self.invariant c.args.name c.in-Ok.place c.in-Ok.ensures.found old new w.in-Some.ensures.value c.args.id (ap (λ (e : Entry). (e.name, e.id)) w.lead_to.ensures)
-      ∙ ap (λ m. map.insert m c.args.name c.args.id) c.self.view_is)
-  | in_default w ↦ absurd (true≢false (sym (w.in_default.ensures.variant.1 c.in-Ok.ensures.found.within)))
-]
+pub unreachable-requires : goal.unreachable-requires
+unreachable-requires c = true≢false (sym (c.in_default.ensures.variant.1 c.in-Ok.ensures.found.within))
+
+pub returns-in-Some-clause-inserted : goal.returns-in-Some-clause-inserted
+returns-in-Some-clause-inserted c =
+    let new = c.lead_to.new.self in
+    ap directory_of (at_some c.in-Some.is (c.get_mut.follows.holds new))
+    ∙ map_over c.self.inside.entries c.self.invariant c.args.name c.in-Ok.place c.in-Ok.ensures.found c.in-Some.slot.now new c.in-Some.ensures.value c.args.id (ap (λ (e : Entry). (e.name, e.id)) c.lead_to.ensures.leads)
+    ∙ ap (λ m. map.insert m c.args.name c.args.id) c.self.view_is
+
+pub returns-in-Some-clause-found : goal.returns-in-Some-clause-found
+returns-in-Some-clause-found c =
+    ap Some c.lead_to.ensures.led ∙ sym (found c.self.inside.entries c.self.invariant c.args.name c.in-Ok.place c.in-Some.slot.now c.in-Ok.ensures.found c.in-Some.ensures.value)
+    ∙ ap (λ m. map.get m c.args.name) c.self.view_is
+
+pub returns-in_ok-insert-in-Err-clause-found : goal.returns-in_ok-insert-in-Err-clause-found
+returns-in_ok-insert-in-Err-clause-found c =
+    let gap = c.in-Err.ensures.absent in
+    sym (absent c.self.inside.entries c.self.invariant c.args.name c.in-Err.place gap) ∙ ap (λ m. map.get m c.args.name) c.self.view_is
 
 pub returns-in_err-slot-in-Err-clause-replaced : goal.returns-in_err-slot-in-Err-clause-replaced
 returns-in_err-slot-in-Err-clause-replaced c there =
@@ -42,8 +47,8 @@ returns-in_err-insert-in-Err-clause-replaced c there =
     let none = absent c.self.inside.entries c.self.invariant c.args.name c.in-Err.place gap in
     absurd (true≢false (sym there ∙ ap is_some (ap (λ m. map.get m c.args.name) (sym c.self.view_is) ∙ none)))
 
-pub invariant_of-self-in-Continue-branch-2 : goal.invariant_of-self-in-Continue-branch-2
-invariant_of-self-in-Continue-branch-2 c =
+pub invariant_of-self-in-Err : goal.invariant_of-self-in-Err
+invariant_of-self-in-Err c =
     let entry = c.in_ok-slot-in-Err.slot in
     let gap = c.in-Err.ensures.absent in
     let gap_of_entry = subst (λ (e : Entry). IsGap c.self.inside.entries e.name c.in-Err.place) (sym c.in_ok-slot-in-Err.ensures) gap in

@@ -1,6 +1,6 @@
 use Rattle.std.specs.Prelude.{[], List, get_or}
 use Rattle.std.proofs.Common.{subst}
-use Rattle.kern_model.specs.declared.numbers.Oid.{Oid}
+use Rattle.fs_dirs.specs.declared.links.Holder.{Holder}
 use Rattle.fs_dirs.specs.Entries.{IsIn}
 use Rattle.fs_dirs.proofs.LentLists.{lent_absent, lent_found, lent_left}
 use Rattle.fs_dirs.proofs.LinkLemmas.{less_at, never_absent}
@@ -12,7 +12,7 @@ unreachable-requires c = never_absent c.args.self.now c.args.id.now c.args.dir.n
 pub take_out-requires : goal.take_out-requires
 take_out-requires c =
     let found = lent_found c.self.view_is c.args.id.now.label c.in-Some.is c.get_mut.ensures.value in
-    subst (λ (r : List (List Oid)). IsIn c.args.dir.now (get_or r c.args.id.now.n [])) found c.requires
+    subst (λ (r : List (List Holder)). IsIn c.args.dir.now (get_or r c.args.id.now.n [])) found c.requires
 
 pub returns : goal.returns
 returns c =

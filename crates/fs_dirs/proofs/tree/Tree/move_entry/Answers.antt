@@ -7,7 +7,7 @@ use Rattle.kern_model.specs.Keys.{Spot, spot_cmp}
 use Rattle.kern_model.specs.Valid.{IsDir}
 use Rattle.kern_model.proofs.KeyLaws.{spot_cmp_total, spot_cmp_exact}
 use Rattle.kern_model.proofs.MapLemmas.{same_key}
-use Rattle.fs_dirs.specs.Tree.{IsTree, TreeView}
+use Rattle.fs_dirs.specs.Tree.{AreEntries, TreeView}
 use Rattle.fs_dirs.proofs.CountLemmas.{insert-remove}
 use Rattle.fs_dirs.proofs.TreeLemmas.{tree_moved}
 use Rattle.fs_dirs.proofs.tree.Tree.move_entry.Goals as goal
@@ -24,7 +24,7 @@ returns-then-is_same-clause-moved c id is =
 
 pub invariant_of-self-2 : goal.invariant_of-self-2
 invariant_of-self-2 c =
-    subst (λ (m : FinMap spot_cmp Oid). IsTree c.self.inside.nodes.table m) (sym c.in_ok-relocate.ensures.moved)
-    (tree_moved c.self.inside.nodes.table c.self.inside.entries c.self.invariant c.args.from.now c.args.old.now c.args.to.now c.args.new.now c.in-Some.id
+    subst (λ (m : FinMap spot_cmp Oid). AreEntries c.self.inside.nodes.table m) (sym c.in_ok-relocate.ensures.moved)
+    (tree_moved c.self.inside.nodes.table c.self.inside.entries c.self.invariant (c.args.from.now, c.args.old.now) (c.args.to.now, c.args.new.now) c.in-Some.id
     (subst (λ (t : TreeView). IsDir t.nodes.table.objects c.args.to.now) (sym c.self.view_is) c.requires)
-    (sym c.look.ensures ∙ c.in-Some.is) (sym c.is_same.ensures ∙ c.if-is_same.false))
+    (sym c.look.ensures ∙ c.in-Some.is))

@@ -1,9 +1,9 @@
 use Rattle.std.proofs.Common.{sym, subst}
 use Rattle.fs_nodes.specs.Nodes.{NodeTable}
-use Rattle.fs_dirs.specs.Tree.{IsTree}
+use Rattle.fs_dirs.specs.Tree.{AreEntries}
 use Rattle.fs_dirs.proofs.TreeLemmas.{tree_alone}
 use Rattle.fs_dirs.proofs.tree.Tree.new.Goals as goal
 
 pub invariant_of-result : goal.invariant_of-result
 invariant_of-result c =
-    subst (λ (table : NodeTable). IsTree table c.new-entries.result) (sym c.in_ok-nodes.ensures) (tree_alone c.args.attr c.new-entries.result c.new-entries.ensures)
+    subst (λ (table : NodeTable). AreEntries table c.new-entries.result) (sym c.in_ok-nodes.ensures) (tree_alone c.args.attr c.new-entries.result c.new-entries.ensures)

@@ -3,7 +3,7 @@ use Rattle.std.specs.FinMap.{FinMap}
 use Rattle.kern_model.specs.declared.numbers.Oid.{Oid}
 use Rattle.kern_model.specs.Keys.{spot_cmp}
 use Rattle.kern_model.proofs.KeyLaws.{spot_cmp_total, spot_cmp_exact}
-use Rattle.fs_dirs.specs.Tree.{IsTree, TreeView}
+use Rattle.fs_dirs.specs.Tree.{AreEntries, TreeView}
 use Rattle.fs_dirs.proofs.Answering.{same_err}
 use Rattle.fs_dirs.proofs.TreeLemmas.{tree_removed}
 use Rattle.fs_dirs.proofs.tree.Tree.remove.Goals.{in-Some, in-None}
@@ -12,7 +12,7 @@ use Rattle.fs_dirs.proofs.tree.Tree.remove.Goals as goal
 
 pub invariant_of-self : goal.invariant_of-self
 invariant_of-self c =
-    subst (λ (m : FinMap spot_cmp Oid). IsTree c.self.inside.nodes.table m) (sym c.remove.ensures.removed)
+    subst (λ (m : FinMap spot_cmp Oid). AreEntries c.self.inside.nodes.table m) (sym c.remove.ensures.removed)
     (tree_removed c.self.inside.nodes.table c.self.inside.entries c.self.invariant (c.args.dir.now, c.args.name.now))
 
 pub returns-clause-err : goal.returns-clause-err

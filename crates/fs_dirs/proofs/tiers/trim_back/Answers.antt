@@ -4,7 +4,7 @@ use Rattle.std.proofs.lemmas.Bool.{eqb-true}
 use Rattle.std.proofs.lemmas.List.{nil_from_length}
 use Rattle.fs_dirs.specs.Tiers.{Tier}
 use Rattle.fs_dirs.proofs.TierLemmas.{same_without, tiers_without}
-use Rattle.fs_dirs.proofs.tiers.trim.Goals as goal
+use Rattle.fs_dirs.proofs.tiers.trim_back.Goals as goal
 
 pub returns-then-is_empty-clause-same : goal.returns-then-is_empty-clause-same
 returns-then-is_empty-clause-same g c =

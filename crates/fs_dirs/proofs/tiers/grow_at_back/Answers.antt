@@ -1,7 +1,7 @@
 use Rattle.std.proofs.Common.{ap, ◌∙◌}
 use Rattle.fs_dirs.specs.Tiers.{Tier}
 use Rattle.fs_dirs.proofs.TierLemmas.{same_items}
-use Rattle.fs_dirs.proofs.tiers.grow.Goals as goal
+use Rattle.fs_dirs.proofs.tiers.grow_at_back.Goals as goal
 
 pub returns-in_err-reserve-clause-same : goal.returns-in_err-reserve-clause-same
 returns-in_err-reserve-clause-same g c =
