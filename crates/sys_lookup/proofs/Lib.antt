@@ -9,6 +9,7 @@ pub mod LendLemmas
 pub mod MakeLemmas
 pub mod OpenedLemmas
 pub mod OwnerLemmas
+pub mod PassLemmas
 pub mod PlayLemmas
 pub mod PlayingLemmas
 pub mod RefuseLemmas

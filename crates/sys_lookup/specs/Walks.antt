@@ -1,5 +1,5 @@
 -- What a walk finds, and the parts of rows that walk.
-use Rattle.std.specs.Prelude.{◌≡◌, ◌⊎◌, ℕ, List, Option, Some, Result, Ok, Err}
+use Rattle.std.specs.Prelude.{◌≡◌, ◌⊎◌, ℕ, ◌+◌, List, [], ◌∷◌, Option, Some, Result, Ok, Err}
 use Rattle.fs_path.specs.Name.{Name}
 use Rattle.fs_path.specs.Path.{PathValue}
 use Rattle.kern_model.specs.declared.checks.Place.{Place}
@@ -7,15 +7,13 @@ use Rattle.kern_model.specs.declared.checks.Place.TheVariants as place
 use Rattle.kern_model.specs.declared.numbers.Oid.{Oid}
 use Rattle.kern_model.specs.State.{State, Process, look}
 use Rattle.kern_model.specs.Row.{Row}
-use Rattle.kern_model.specs.Walk.{Found, Start, Entry, enter, last_place, or_missing, reach, walk_from}
+use Rattle.kern_model.specs.Walk.{Found, Start, Entry, enter, last_place, or_missing, reach}
 use Rattle.kern_model.specs.Valid.{IsDir}
 use Rattle.chk_rules.specs.declared.stop.Stop.{Stop}
-use Rattle.sys_lookup.specs.Callers.{CallerView}
 use Rattle.sys_lookup.specs.declared.argument.PathArgument.{PathArgument}
 use Rattle.sys_lookup.specs.declared.argument.PathArgument.TheVariants as argument
 use Rattle.sys_lookup.specs.declared.found.Found as walked
 use Rattle.sys_lookup.specs.declared.found.Found.TheVariants as found
-use Rattle.sys_lookup.specs.declared.walking.Reached.{Reached}
 
 -- the places of a path, by how many names were passed
 abbrev pub place_in : PathArgument → ℕ → Place
@@ -44,9 +42,10 @@ find_name s p place dir name rest = enter s p dir place (rest (Entry dir name (l
 abbrev pub pass_name : State → Process → Place → Oid → Name → (Oid → Row) → Row
 pass_name s p place dir name rest = enter s p dir place (or_missing (look s dir name) rest)
 
--- the part of a row that walks names from the directory that a walk of a caller has reached
-abbrev pub walk_reached : CallerView → Reached → List Name → (Found → Row) → Row
-walk_reached k at names = walk_from k.state k.process (place_in at.which) at.names at.dir names
+-- the part of a row that passes names, of which none is the last, and goes on from the directory that they lead to
+abbrev pub pass_names : State → Process → (ℕ → Place) → ℕ → Oid → List Name → (Oid → Row) → Row
+pass_names s p place at dir [] rest = rest dir
+pass_names s p place at dir (name ∷ names) rest = pass_name s p (place at) dir name (λ id. pass_names s p place (at + 1) id names rest)
 
 -- ---- what stands in the state of what a walk found
 

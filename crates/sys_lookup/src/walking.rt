@@ -1,10 +1,10 @@
 // The walk of a path.
-ghost use Rattle.std.specs.Prelude.{◌≡◌, ◌≤◌, ◌+◌, ◌∷◌, length, IfOk, OnOk};
+ghost use Rattle.std.specs.Prelude.{◌≡◌, ◌≤◌, length, IfOk, OnOk};
 ghost use Rattle.kern_model.specs.Walk.{enter, last_place, reach, start_of, walk};
 ghost use Rattle.kern_model.specs.Valid.{IsDir};
 ghost use Rattle.kern_model.specs.declared.numbers.Oid.{Oid as Number};
 ghost use Rattle.chk_rules.specs.RowSteps.{GoesOn};
-ghost use Rattle.sys_lookup.specs.Walks.{IsFound, IsLedTo, find_name, found_by, pass_name, place_in, reach_end, walk_reached};
+ghost use Rattle.sys_lookup.specs.Walks.{IsFound, IsLedTo, find_name, found_by, pass_name, pass_names, place_in, reach_end};
 
 use crate::argument::PathArgument;
 use crate::caller::Caller;
@@ -13,23 +13,6 @@ use crate::last_name::LastName;
 use chk_rules::{Checks, Stop, refuse_if};
 use fs_dirs::root_directory;
 use kern_model::{Errno, Name, Oid, Path, Place};
-
-// A directory that the walk of a path has reached, after so many names.
-#[derive(Clone, Copy)]
-struct Reached {
-    which: PathArgument,
-    names: u8,
-    dir: Oid,
-}
-
-impl Reached {
-    // Its place.
-    fn place(&self) -> Place
-        ensures { result ≡ place_in self.now.which self.now.names }
-    {
-        self.which.place(self.names)
-    }
-}
 
 impl Caller<'_> {
     /// Walks a path to an object that is there, and returns its number and its place.
@@ -57,16 +40,13 @@ impl Caller<'_> {
         ensures step { GoesOn checks.old (walk self.now.state self.now.process (place_in which) path.now) (found_by result) checks.new }
         ensures found { IfOk result (IsFound self.now.state (start_of self.now.process path.now)) }
     {
-        let dir = if path.absolute {
-            root_directory()
-        } else {
-            self.cwd()
-        };
+        let start = self.start_of(path);
         match path.components() {
-            [] => Ok(Found::Start(dir)),
-            [first, rest @ ..] => {
-                let names = 0;
-                self.walk_from(checks, Reached { which, names, dir }, first, rest)
+            [] => Ok(Found::Start(start)),
+            [names @ .., last] => {
+                let dir = self.pass_all(checks, which, start, names)?;
+                let place = which.place(names.len() as u8);
+                self.find_name(checks, place, dir, last)
             }
         }
     }
@@ -83,28 +63,34 @@ impl Caller<'_> {
         self.dac_search(checks, &object, place)
     }
 
-    // Walks a name and the rest of a path from the directory that is reached.
-    fn walk_from<'a>(
+    // Where a path starts.
+    fn start_of(&self, path: &Path) -> Oid
+        ensures { result ≡ start_of self.now.process path.now }
+    {
+        if path.absolute {
+            root_directory()
+        } else {
+            self.cwd()
+        }
+    }
+
+    // Looks up the names that are not the last, from where the path starts: they lead to where the walk goes on.
+    fn pass_all(
         &self,
         checks: &mut Checks,
-        at: Reached,
-        name: &'a Name,
-        rest: &'a [Name],
-    ) -> Result<Found<'a>, Stop>
-        requires { at.names + length rest.now ≤ 31 }
-        ensures step { GoesOn checks.old (walk_reached self.now at (name.now ∷ rest.now)) (found_by result) checks.new }
-        ensures found { (start : Number) → IfOk result (IsFound self.now.state start) }
+        which: PathArgument,
+        start: Oid,
+        names: &[Name],
+    ) -> Result<Oid, Stop>
+        requires { length names.now ≤ 31 }
+        ensures { GoesOn checks.old (pass_names self.now.state self.now.process (place_in which) 0 start names.now) result checks.new }
     {
-        let place = at.place();
-        let Reached { which, names, dir } = at;
-        match rest {
-            [] => self.find_name(checks, place, dir, name),
-            [next, rest @ ..] => {
-                let dir = self.pass(checks, place, dir, name)?;
-                let names = names + 1;
-                self.walk_from(checks, Reached { which, names, dir }, next, rest)
-            }
+        let mut dir = start;
+        for (passed, name) in names.iter().enumerate() {
+            let place = which.place(passed as u8);
+            dir = self.pass(checks, place, dir, name)?;
         }
+        Ok(dir)
     }
 
     // Looks up the last name of a walk, which may be absent.
