@@ -1,9 +1,12 @@
 -- Objects by their paths and the counts at labels, after one more object or process.
-use Rattle.std.proofs.Common.{◌≡◌, ℕ, ◌+◌, ◌-◌, ◌<◌, ◌≤◌, ◌⊎◌, inl, inr, Bool, true, false, cond, List, [], ◌∷◌, ◌++◌, length, map, get_or, take, zero, suc, refl, sym, ◌∙◌, ap, subst, arith, Option, Some, None}
+use Rattle.std.proofs.Common.{◌≡◌, ℕ, ◌+◌, ◌<◌, ◌≤◌, ◌⊎◌, inl, inr, Bool, true, false, cond, List, [], ◌∷◌, ◌++◌, length, map, get_or, take, zero, suc, refl, sym, ◌∙◌, ap, subst, arith, FoldHasher, Option, Some, None}
 use Rattle.std.specs.Prelude.{unwrap_or, count_by, slice_get}
 use Rattle.std.specs.Option.{option_map}
 use Rattle.std.specs.Ordering.{is_eq}
-use Rattle.std.specs.BTreeMap.{BTreeMap, get, is_at}
+use Rattle.std.specs.FinMap as finite
+use Rattle.std.specs.Hash.FoldHasher as folding
+use Rattle.std.specs.List.{fold}
+use Rattle.std.specs.FinMap.{FinMap, get-empty, get-insert}
 use Rattle.std.specs.declared.cmp.Ordering.{Ordering}
 use Rattle.std.specs.declared.cmp.Ordering.TheVariants.{Less, Equal, Greater}
 use Rattle.std.specs.Cmp.{tied_itself}
@@ -20,57 +23,69 @@ use Rattle.kern_model.specs.declared.world.WorldProc.{WorldProc}
 use Rattle.kern_model.specs.Rules.{same_label}
 use Rattle.kern_model.specs.World.{same_names, parent_names, object_with_path, objects_at, procs_at}
 use Rattle.world_text.specs.Placing.{directory_of, is_directory, is_above}
-use Rattle.world_text.specs.Indexed.{path_entry_of, path_hash, count_in, is_dir_entry, is_above_entry}
+use Rattle.world_text.specs.Indexed.{HasObject, HasProcess, IsEmpty, IsIndexed, path_entry_of, hasher_of, path_hash, count_in, is_dir_entry, is_above_entry}
+use Rattle.world_text.specs.declared.builder.Kept.{Kept}
 use Rattle.world_text.specs.Chains.{IsLast}
 use Rattle.kern_model.proofs.WorldLemmas.{names_same}
 
 -- ---- counts
 
 -- labels are the same exactly where they compare equal
-same_by_cmp : (a b : Label) → is_eq (label_cmp a b) ≡ same_label a b
-same_by_cmp a b = by_test (same_label a b) refl (label_cmp a b) refl
+same_by_cmp : (a b : Label) → is_eq (label_cmp b a) ≡ same_label a b
+same_by_cmp a b = by_test (same_label a b) refl (label_cmp b a) refl
   where
     itself : same_label a a ≡ true
     itself = and_from (dominates a a) (dominates a a) (dominates_itself a) (dominates_itself a)
 
-    by_test : (v : Bool) → same_label a b ≡ v → (o : Ordering) → label_cmp a b ≡ o → is_eq (label_cmp a b) ≡ same_label a b
+    by_test : (v : Bool) → same_label a b ≡ v → (o : Ordering) → label_cmp b a ≡ o → is_eq (label_cmp b a) ≡ same_label a b
     by_test true f o e =
         let parts = and_parts (dominates a b) (dominates b a) f in
-        ap (λ (x : Label). is_eq (label_cmp a x)) (sym (dominates_both a b parts.0 parts.1)) ∙ ap is_eq (tied_itself label_cmp_total a) ∙ sym f
+        ap (λ (x : Label). is_eq (label_cmp x a)) (sym (dominates_both a b parts.0 parts.1)) ∙ ap is_eq (tied_itself label_cmp_total a) ∙ sym f
     by_test false f Less e = ap is_eq e ∙ sym f
     by_test false f Greater e = ap is_eq e ∙ sym f
-    by_test false f Equal e = ap is_eq e ∙ sym itself ∙ ap (same_label a) (label_cmp_exact a b e)
+    by_test false f Equal e = ap is_eq e ∙ sym itself ∙ ap (same_label a) (sym (label_cmp_exact b a e))
 
 -- one more is counted at a label
-pub counted : (m n : BTreeMap Label ℕ) (k : Label) (v : ℕ) → ((q : Label) → get label_cmp n q ≡ cond (is_at (label_cmp k) q) (Some v) (get label_cmp m q)) → v ≡ count_in m k + 1
-    → (l : Label) → count_in n l ≡ count_in m l + cond (same_label k l) 1 0
+pub counted : (m n : FinMap label_cmp ℕ) (k : Label) (v : ℕ) → n ≡ finite.insert m k v → v ≡ count_in m k + 1 → (l : Label) → count_in n l ≡ count_in m l + cond (same_label k l) 1 0
 counted m n k v e is l =
-    ap (λ (o : Option ℕ). unwrap_or o 0) (e l) ∙ ap (λ t. unwrap_or (cond t (Some v) (get label_cmp m l)) 0) (same_by_cmp k l) ∙ by_test (same_label k l) refl
+    ap (λ (n : FinMap label_cmp ℕ). count_in n l) e ∙ ap (λ (o : Option ℕ). unwrap_or o 0) (get-insert label_cmp_total m k v l)
+    ∙ ap (λ t. unwrap_or (cond t (Some v) (finite.get m l)) 0) (same_by_cmp k l) ∙ by_test (same_label k l) refl
   where
-    by_test : (t : Bool) → same_label k l ≡ t → unwrap_or (cond (same_label k l) (Some v) (get label_cmp m l)) 0 ≡ count_in m l + cond (same_label k l) 1 0
+    by_test : (t : Bool) → same_label k l ≡ t → unwrap_or (cond (same_label k l) (Some v) (finite.get m l)) 0 ≡ count_in m l + cond (same_label k l) 1 0
     by_test true f =
         let parts = and_parts (dominates k l) (dominates l k) f in
-        ap (λ t. unwrap_or (cond t (Some v) (get label_cmp m l)) 0) f ∙ is ∙ ap (λ (x : Label). count_in m x + 1) (dominates_both k l parts.0 parts.1) ∙ sym (ap (λ t. count_in m l + cond t 1 0) f)
+        ap (λ t. unwrap_or (cond t (Some v) (finite.get m l)) 0) f ∙ is ∙ ap (λ (x : Label). count_in m x + 1) (dominates_both k l parts.0 parts.1) ∙ sym (ap (λ t. count_in m l + cond t 1 0) f)
     by_test false f =
         let zero : count_in m l ≡ count_in m l + 0 = omega arith in
-        ap (λ t. unwrap_or (cond t (Some v) (get label_cmp m l)) 0) f ∙ zero ∙ sym (ap (λ t. count_in m l + cond t 1 0) f)
+        ap (λ t. unwrap_or (cond t (Some v) (finite.get m l)) 0) f ∙ zero ∙ sym (ap (λ t. count_in m l + cond t 1 0) f)
 
 pub count_more : {X : Type 0} (p : X → Bool) (xs : List X) (x : X) → count_by p (xs ++ x ∷ []) ≡ count_by p xs + cond (p x) 1 0
 count_more p xs x = let both = sum_by-append (λ x. cond (p x) 1 0) xs (x ∷ []) in omega arith
 
 -- one more object is counted at its label
-pub objects_counted : (old new : BTreeMap Label ℕ) (objects more : List WorldObject) (o : WorldObject)
+pub objects_counted : (old new : FinMap label_cmp ℕ) (objects more : List WorldObject) (o : WorldObject)
     → ((l : Label) → count_in new l ≡ count_in old l + cond (same_label o.label l) 1 0) → more ≡ objects ++ o ∷ []
     → ((l : Label) → count_in old l ≡ objects_at l objects) → (l : Label) → count_in new l ≡ objects_at l more
 objects_counted old new objects more o updates is before l =
     updates l ∙ ap (λ k. k + cond (same_label o.label l) 1 0) (before l) ∙ sym (ap (objects_at l) is ∙ count_more (λ (x : WorldObject). same_label x.label l) objects o)
 
 -- one more process is counted at its label
-pub procs_counted : (old new : BTreeMap Label ℕ) (procs more : List WorldProc) (w : WorldProc)
+pub procs_counted : (old new : FinMap label_cmp ℕ) (procs more : List WorldProc) (w : WorldProc)
     → ((l : Label) → count_in new l ≡ count_in old l + cond (same_label w.label l) 1 0) → more ≡ procs ++ w ∷ []
     → ((l : Label) → count_in old l ≡ procs_at l procs) → (l : Label) → count_in new l ≡ procs_at l more
 procs_counted old new procs more w updates is before l =
     updates l ∙ ap (λ k. k + cond (same_label w.label l) 1 0) (before l) ∙ sym (ap (procs_at l) is ∙ count_more (λ (x : WorldProc). same_label x.label l) procs w)
+
+-- ---- hashes
+
+hasher_on : (hasher : FoldHasher) (names : List Name) (name : Name) → fold folding.write hasher (names ++ name ∷ []) ≡ folding.write (fold folding.write hasher names) name
+hasher_on hasher [] name = refl
+hasher_on hasher (n ∷ ns) name = hasher_on (folding.write hasher n) ns name
+
+-- the hasher after the names of the directory goes on with the last one
+pub hasher_more : (names above : List Name) (name : Name) → names ≡ above ++ name ∷ [] → folding.write (hasher_of above) name ≡ hasher_of names
+unfolding hasher_of
+hasher_more names above name is = sym (ap (fold folding.write folding.initial) is ∙ hasher_on folding.initial above name)
 
 -- ---- objects by their paths
 
@@ -168,18 +183,49 @@ pub hashes_more : (os more : List WorldObject) (o : WorldObject) (old new : List
 hashes_more os more o old new hash grown longer is are =
     longer ∙ (λ i. are i ++ is i ∷ []) ∙ sym (ap (map hash_of) grown ∙ map-append hash_of os (o ∷ []))
 
+-- ---- what is kept
+
+pub empty_indexed : (k : Kept) → IsEmpty k → IsIndexed k
+empty_indexed k none = record {
+  hashes_are = none.no_hashes ∙ sym (ap (map hash_of) none.no_objects);
+  apart = λ i o at. let fails : None ≡ Some o = sym (ap (λ (os : List WorldObject). slice_get os i) none.no_objects) ∙ at in absurd (cc);
+  objects_are = λ l. ap (λ (m : FinMap label_cmp ℕ). count_in m l) none.no_object_counts ∙ nothing l ∙ sym (ap (objects_at l) none.no_objects);
+  procs_are = λ l. ap (λ (m : FinMap label_cmp ℕ). count_in m l) none.no_proc_counts ∙ nothing l ∙ sym (ap (procs_at l) none.no_procs);
+}
+  where
+    nothing : (l : Label) → count_in finite.empty l ≡ 0
+    nothing l = ap (λ (o : Option ℕ). unwrap_or o 0) (get-empty {X = ℕ} label_cmp l)
+
+pub object_indexed : (old new : Kept) (o : WorldObject) (hash : ℕ) → IsIndexed old → HasObject old new o hash → hash ≡ path_hash o.path.names → object_with_path old.objects o.path.names ≡ None → IsIndexed new
+object_indexed old new o hash before put is free = record {
+  hashes_are = hashes_more old.objects new.objects o old.chains new.chains hash put.objects put.hashes is before.hashes_are;
+  apart = apart_more old.objects new.objects o put.objects free before.apart;
+  objects_are = objects_counted old.object_counts new.object_counts old.objects new.objects o put.object_counts put.objects before.objects_are;
+  procs_are = λ l. ap (λ (m : FinMap label_cmp ℕ). count_in m l) put.proc_counts ∙ before.procs_are l ∙ sym (ap (procs_at l) put.procs);
+}
+
+pub process_indexed : (old new : Kept) (p : WorldProc) → IsIndexed old → HasProcess old new p → IsIndexed new
+process_indexed old new p before put = record {
+  hashes_are = put.hashes ∙ before.hashes_are ∙ sym (ap (map hash_of) put.objects);
+  apart = subst (λ (os : List WorldObject). (i : ℕ) (o : WorldObject) → slice_get os i ≡ Some o → object_with_path (take i os) o.path.names ≡ None) (sym put.objects) before.apart;
+  objects_are = λ l. ap (λ (m : FinMap label_cmp ℕ). count_in m l) put.object_counts ∙ before.objects_are l ∙ sym (ap (objects_at l) put.objects);
+  procs_are = procs_counted old.proc_counts new.proc_counts old.procs new.procs p put.proc_counts put.procs before.procs_are;
+}
+
 -- ---- directories
 
-parent_taken : (n : Name) (ns : List Name) → parent_names (n ∷ ns) ≡ take (length ns) (n ∷ ns)
-parent_taken n [] = refl
-parent_taken n (m ∷ ns) = ap (λ ps. n ∷ ps) (parent_taken m ns)
+parent_before : (above : List Name) (name : Name) → parent_names (above ++ name ∷ []) ≡ above
+parent_before [] name = refl
+parent_before (n ∷ []) name = refl
+parent_before (n ∷ m ∷ ns) name = ap (λ ps. n ∷ ps) (parent_before (m ∷ ns) name)
 
 -- the directory of names is what was given with all but the last
-pub directory_stands : (os : List WorldObject) (names : List Name) → 0 < length names → directory_of os names ≡ object_with_path os (take (length names - 1) names)
-directory_stands os [] some = absurd (omega arith)
-directory_stands os (n ∷ ns) some =
-    let less : length ns ≡ suc (length ns) - 1 = omega arith in
-    ap (object_with_path os) (parent_taken n ns ∙ ap (λ k. take k (n ∷ ns)) less)
+pub directory_stands : (os : List WorldObject) (names above : List Name) (name : Name) → names ≡ above ++ name ∷ [] → object_with_path os above ≡ directory_of os names
+directory_stands os names above name is = sym (ap (directory_of os) is ∙ by_above above)
+  where
+    by_above : (above : List Name) → directory_of os (above ++ name ∷ []) ≡ object_with_path os above
+    by_above [] = refl
+    by_above (n ∷ ns) = ap (object_with_path os) (parent_before (n ∷ ns) name)
 
 -- the entry of an object has its kind
 pub stands_as_dir : (o : Option WorldObject) → is_dir_entry (option_map path_entry_of o) ≡ is_directory o

@@ -14,7 +14,6 @@ use Rattle.world_text.specs.declared.expecting.Parsed.{Parsed}
 use Rattle.world_text.specs.declared.expecting.Parsed.TheVariants.{Refuses, GoesOn}
 use Rattle.world_text.specs.declared.expecting.PartialWorld.{PartialWorld}
 use Rattle.world_text.specs.declared.values.WordValue.TheVariants as value
-use Rattle.world_text.specs.Tree.{Tree}
 use Rattle.world_text.specs.Values.{unless, refuse_or, label_value, label_of}
 use Rattle.world_text.specs.TreeLines.{parse_object}
 use Rattle.world_text.specs.Processes.{parse_process}
@@ -46,13 +45,5 @@ object_refused w o uniform fault e = ap (λ f. object_parsed w o f uniform) e
 pub object_mixed : (w : PartialWorld) (o : WorldObject) (uniform : Bool) → None ≡ object_fault w.builder o → uniform ≡ false → Refuses MixedCaps ≡ parse_object w o uniform
 object_mixed w o uniform e mixed = λ i. object_parsed w o (e i) (sym mixed i)
 
-pub object_put : (w : PartialWorld) (t : Tree) (o : WorldObject) (uniform : Bool) → None ≡ object_fault w.builder o → uniform ≡ true → t ≡ record w.builder { objects = w.builder.objects ++ o ∷ [] }
-    → GoesOn (at.Tree (record w { builder = t })) ≡ parse_object w o uniform
-object_put w t o uniform e fine is = ap (λ (t : Tree). GoesOn (at.Tree (record w { builder = t }))) is ∙ (λ i. object_parsed w o (e i) (sym fine i))
-
 pub process_refused : (w : PartialWorld) (p : WorldProc) (fault : LineFault) → Some fault ≡ process_fault w.builder p → Refuses fault ≡ parse_process w p
 process_refused w p fault e = ap (λ f. refuse_or f (GoesOn (at.Tree (record w { builder = record w.builder { procs = w.builder.procs ++ p ∷ [] } })))) e
-
-pub process_put : (w : PartialWorld) (t : Tree) (p : WorldProc) → None ≡ process_fault w.builder p → t ≡ record w.builder { procs = w.builder.procs ++ p ∷ [] } → GoesOn (at.Tree (record w { builder = t })) ≡ parse_process w p
-process_put w t p e is =
-    ap (λ (t : Tree). GoesOn (at.Tree (record w { builder = t }))) is ∙ ap (λ f. refuse_or f (GoesOn (at.Tree (record w { builder = record w.builder { procs = w.builder.procs ++ p ∷ [] } })))) e

@@ -13,8 +13,9 @@ use Rattle.kern_model.specs.World.{object_with_path, objects_at, procs_at}
 use Rattle.line_text.specs.declared.fault.LineFault.{LineFault}
 use Rattle.line_text.specs.declared.fault.LineFault.TheVariants.{Repeated, NoParent, LabelOrder, RootLabel, TooMany}
 use Rattle.world_text.specs.declared.builder.PathEntry.{PathEntry}
+use Rattle.world_text.specs.declared.builder.Spot.{Spot}
 use Rattle.world_text.specs.Tree.{Tree}
-use Rattle.world_text.specs.Indexed.{path_entry_of, is_dir_entry, is_above_entry}
+use Rattle.world_text.specs.Indexed.{IsSpot, path_entry_of, object_at, is_dir_entry, is_above_entry}
 use Rattle.world_text.specs.Placing.{is_directory, is_above, directory_of, is_root, object_fault, process_fault}
 use Rattle.world_text.proofs.BuilderLemmas.{stands_as_dir, stands_above}
 
@@ -27,19 +28,25 @@ first_fault repeated parent wrong above full =
 abbrev pub wrong_root : WorldObject → Bool
 wrong_root o = is_root o.path.names && not (is_dir (kind_of o.body) && dominates bottom o.label)
 
--- the first fault is found from the entry at the path of the object's directory
-pub fault_reported : (t : Tree) (o : WorldObject) (d : Option PathEntry) (repeated parent wrong above full : Bool)
-    → d ≡ option_map path_entry_of (directory_of t.objects o.path.names)
-    → is_some (object_with_path t.objects o.path.names) ≡ repeated → (is_root o.path.names || is_dir_entry d) ≡ parent → wrong_root o ≡ wrong → is_above_entry o.label d ≡ above → nat_le MAX_OBJECTS (objects_at o.label t.objects) ≡ full
+-- the first fault is found from the spot of an object and from the entry of its directory
+pub fault_reported : (t : Tree) (o : WorldObject) (s : Spot) (d : Option PathEntry) (repeated parent wrong above full : Bool)
+    → IsSpot t o s → d ≡ option_map path_entry_of (object_at t.objects s.directory)
+    → is_some (object_with_path t.objects o.path.names) ≡ repeated → (is_root o.path.names || is_dir_entry d) ≡ parent → wrong_root o ≡ wrong → is_above_entry o.label d ≡ above → nat_le MAX_OBJECTS s.count ≡ full
     → first_fault repeated parent wrong above full ≡ object_fault t o
 unfolding object_fault
-fault_reported t o d repeated parent wrong above full dir e f g h k = sym (λ i. first_fault (e i) (has_parent i) (g i) (is_over i) (k i))
+fault_reported t o s d repeated parent wrong above full spot entry e f g h k = sym (λ i. first_fault (e i) (has_parent i) (g i) (is_over i) (is_full i))
   where
+    dir : d ≡ option_map path_entry_of (directory_of t.objects o.path.names)
+    dir = entry ∙ ap (option_map path_entry_of) spot.directory_is
+
     has_parent : (is_root o.path.names || is_directory (directory_of t.objects o.path.names)) ≡ parent
     has_parent = ap (λ v. is_root o.path.names || v) (sym (ap is_dir_entry dir ∙ stands_as_dir (directory_of t.objects o.path.names))) ∙ f
 
     is_over : is_above o.label (directory_of t.objects o.path.names) ≡ above
     is_over = sym (ap (is_above_entry o.label) dir ∙ stands_above o.label (directory_of t.objects o.path.names)) ∙ h
+
+    is_full : nat_le MAX_OBJECTS (objects_at o.label t.objects) ≡ full
+    is_full = ap (nat_le MAX_OBJECTS) (sym spot.count_is) ∙ k
 
 pub record HasPlace (t : Tree) (o : WorldObject) : Type 0 where
   pub free : object_with_path t.objects o.path.names ≡ None

@@ -13,8 +13,10 @@ use Rattle.line_text.specs.declared.fault.LineFault.{LineFault}
 use Rattle.line_text.specs.declared.fault.LineFault.TheVariants.{Syntax, UnknownName}
 use Rattle.world_text.specs.declared.values.WordValue.{WordValue}
 use Rattle.world_text.specs.declared.values.WordValue.TheVariants as value
+use Rattle.world_text.specs.declared.expecting.Expecting.TheVariants as at
+use Rattle.world_text.specs.declared.expecting.PartialWorld.{PartialWorld}
 use Rattle.world_text.specs.declared.expecting.Parsed.{Parsed}
-use Rattle.world_text.specs.declared.expecting.Parsed.TheVariants.{Refuses}
+use Rattle.world_text.specs.declared.expecting.Parsed.TheVariants.{Refuses, GoesOn}
 
 -- the fault where a line has it, and else what follows
 abbrev pub unless : Bool → LineFault → Parsed → Parsed
@@ -24,6 +26,10 @@ unless faulty fault parsed = cond faulty (Refuses fault) parsed
 abbrev pub refuse_or : Option LineFault → Parsed → Parsed
 refuse_or None parsed = parsed
 refuse_or (Some fault) parsed = Refuses fault
+
+-- what comes of a tree line: its fault if it has one, and else another line is due after this part of the world
+abbrev pub goes_on_unless : Option LineFault → PartialWorld → Parsed
+goes_on_unless fault w = refuse_or fault (GoesOn (at.Tree w))
 
 -- what follows from a value; `syntax` where there is none
 abbrev pub with_form : {X : Type 0} → Option X → (X → Parsed) → Parsed

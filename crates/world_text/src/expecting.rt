@@ -5,7 +5,7 @@ ghost use Rattle.lab_text.specs.declared.lists.NameList.TheVariants.{Grades};
 ghost use Rattle.world_text.specs.Expecting.{HasFaultOfWorld, world_of, after_keyword, parse_bound_line, parse_grades, parse_script, parse_tree_line, parse_words, parse_line};
 ghost use Rattle.world_text.specs.Processes.{parse_process};
 ghost use Rattle.world_text.specs.TreeLines.{parse_object};
-ghost use Rattle.world_text.specs.Values.{bytes_in};
+ghost use Rattle.world_text.specs.Values.{bytes_in, goes_on_unless};
 
 use crate::builder::WorldBuilder;
 use crate::format::Format;
@@ -79,56 +79,39 @@ pub enum Parsed {
 }
 
 impl PartialWorld {
-    // Puts an object after those before it. Whether its capabilities are uniform is judged last.
+    // Puts an object after those before it, if it has no fault. Whether its capabilities are uniform is judged last.
     pub(crate) fn parse_object(
-        self,
+        &mut self,
         alloc: Global,
         object: WorldObject,
         uniform: bool,
-    ) -> Result<Parsed, NoMemory>
-        ensures { IfOk result (λ parsed. parsed ≡ parse_object self object uniform) }
+    ) -> Result<Option<LineFault>, NoMemory>
+        ensures { IfOk result (λ fault. goes_on_unless fault self.new ≡ parse_object self.old object uniform) }
     {
-        match self.builder.object_fault(&object) {
-            Some(fault) => Ok(Parsed::Refuses(fault)),
-            None if !uniform => Ok(Parsed::Refuses(LineFault::MixedCaps)),
+        let spot = self.builder.spot_of(&object);
+        match self.builder.object_fault(&object, &spot) {
+            Some(fault) => Ok(Some(fault)),
+            None if !uniform => Ok(Some(LineFault::MixedCaps)),
             None => {
-                let PartialWorld {
-                    format,
-                    policy,
-                    bound,
-                    builder,
-                } = self;
-                let builder = builder.with_object(alloc, object)?;
-                Ok(Parsed::GoesOn(Expecting::Tree(PartialWorld {
-                    format,
-                    policy,
-                    bound,
-                    builder,
-                })))
+                self.builder.put_object(alloc, object, &spot)?;
+                Ok(None)
             }
         }
     }
 
-    // Puts a process after those before it.
-    pub(crate) fn parse_process(self, process: WorldProc) -> Result<Parsed, NoMemory>
-        ensures { IfOk result (λ parsed. parsed ≡ parse_process self process) }
+    // Puts a process after those before it, if it has no fault.
+    pub(crate) fn parse_process(
+        &mut self,
+        alloc: Global,
+        process: WorldProc,
+    ) -> Result<Option<LineFault>, NoMemory>
+        ensures { IfOk result (λ fault. goes_on_unless fault self.new ≡ parse_process self.old process) }
     {
         match self.builder.process_fault(&process) {
-            Some(fault) => Ok(Parsed::Refuses(fault)),
+            Some(fault) => Ok(Some(fault)),
             None => {
-                let PartialWorld {
-                    format,
-                    policy,
-                    bound,
-                    builder,
-                } = self;
-                let builder = builder.with_process(process)?;
-                Ok(Parsed::GoesOn(Expecting::Tree(PartialWorld {
-                    format,
-                    policy,
-                    bound,
-                    builder,
-                })))
+                self.builder.put_process(alloc, process)?;
+                Ok(None)
             }
         }
     }
@@ -167,12 +150,17 @@ fn after_keyword<'a, 'w>(keyword: &[u8], words: &'a [LineWord<'w>]) -> Option<&'
 }
 
 // `bound SET`.
-fn parse_bound_line(alloc: Global, format: Format, policy: Policy, words: &[LineWord<'_>]) -> Parsed
-    ensures { result ≡ parse_bound_line format policy words.now }
+fn parse_bound_line(
+    alloc: Global,
+    format: Format,
+    policy: Policy,
+    words: &[LineWord<'_>],
+) -> Result<Parsed, NoMemory>
+    ensures { IfOk result (λ parsed. parsed ≡ parse_bound_line format policy words.now) }
 {
     match after_keyword(b"bound", words) {
         Some(words) => parse_bound(alloc, format, policy, words),
-        None => syntax(),
+        None => Ok(syntax()),
     }
 }
 
@@ -193,7 +181,7 @@ fn parse_grades_line(
             policy.into_names(),
             names,
         ),
-        _ => Ok(parse_bound_line(alloc, format, policy, words)),
+        _ => parse_bound_line(alloc, format, policy, words),
     }
 }
 
@@ -207,6 +195,16 @@ fn parse_script(so_far: PartialWorld, words: &[LineWord<'_>]) -> Parsed
     Parsed::Begins(so_far.into_world())
 }
 
+// What comes of a tree line with this fault, if it has one.
+fn goes_on_unless(fault: Option<LineFault>, so_far: PartialWorld) -> Parsed
+    ensures { result ≡ goes_on_unless fault so_far }
+{
+    match fault {
+        Some(fault) => Parsed::Refuses(fault),
+        None => Parsed::GoesOn(Expecting::Tree(so_far)),
+    }
+}
+
 // A tree line, a process or the beginning of the script.
 fn parse_tree_line(
     alloc: Global,
@@ -218,11 +216,24 @@ fn parse_tree_line(
     let [first, words @ ..] = words else {
         return Ok(syntax());
     };
+    let mut so_far = so_far;
     match Keyword::from_word(first) {
-        Some(Keyword::Dir) => parse_plain(alloc, so_far, words, Body::Dir),
-        Some(Keyword::File) => parse_file(alloc, so_far, words),
-        Some(Keyword::Fifo) => parse_plain(alloc, so_far, words, Body::Fifo),
-        Some(Keyword::Proc) => parse_proc_line(alloc, so_far, words),
+        Some(Keyword::Dir) => {
+            let fault = parse_plain(alloc, &mut so_far, words, Body::Dir)?;
+            Ok(goes_on_unless(fault, so_far))
+        }
+        Some(Keyword::File) => {
+            let fault = parse_file(alloc, &mut so_far, words)?;
+            Ok(goes_on_unless(fault, so_far))
+        }
+        Some(Keyword::Fifo) => {
+            let fault = parse_plain(alloc, &mut so_far, words, Body::Fifo)?;
+            Ok(goes_on_unless(fault, so_far))
+        }
+        Some(Keyword::Proc) => {
+            let fault = parse_proc_line(alloc, &mut so_far, words)?;
+            Ok(goes_on_unless(fault, so_far))
+        }
         Some(Keyword::Script) => Ok(parse_script(so_far, words)),
         None => Ok(syntax()),
     }
@@ -244,7 +255,7 @@ impl Expecting {
                 None => Ok(syntax()),
             },
             Expecting::Grades(format, policy) => parse_grades_line(alloc, format, policy, words),
-            Expecting::Bound(format, policy) => Ok(parse_bound_line(alloc, format, policy, words)),
+            Expecting::Bound(format, policy) => parse_bound_line(alloc, format, policy, words),
             Expecting::Tree(so_far) => parse_tree_line(alloc, so_far, words),
         }
     }

@@ -99,20 +99,28 @@ pub fn parse_names(
 }
 
 /// `bound SET`.
-pub fn parse_bound(alloc: Global, format: Format, policy: Policy, words: &[LineWord<'_>]) -> Parsed
-    ensures { result ≡ parse_bound format policy (bytes_in words.now) }
+pub fn parse_bound(
+    alloc: Global,
+    format: Format,
+    policy: Policy,
+    words: &[LineWord<'_>],
+) -> Result<Parsed, NoMemory>
+    ensures { IfOk result (λ parsed. parsed ≡ parse_bound format policy (bytes_in words.now)) }
 {
     let [word] = words else {
-        return syntax();
+        return Ok(syntax());
     };
     match caps_value(set_from_text(word.bytes.items())) {
-        WordValue::Malformed => syntax(),
-        WordValue::UnknownName => unknown_name(),
-        WordValue::Known(bound) => Parsed::GoesOn(Expecting::Tree(PartialWorld {
-            format,
-            policy,
-            bound,
-            builder: WorldBuilder::new(alloc),
-        })),
+        WordValue::Malformed => Ok(syntax()),
+        WordValue::UnknownName => Ok(unknown_name()),
+        WordValue::Known(bound) => {
+            let builder = WorldBuilder::new(alloc)?;
+            Ok(Parsed::GoesOn(Expecting::Tree(PartialWorld {
+                format,
+                policy,
+                bound,
+                builder,
+            })))
+        }
     }
 }

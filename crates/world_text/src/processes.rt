@@ -1,16 +1,17 @@
 // What the lines of processes say.
 ghost use Rattle.std.specs.Prelude.{◌≡◌, IfOk};
 ghost use Rattle.world_text.specs.Processes.{proc_caps_of, proc_fields_in, parse_proc, parse_proc_line};
-ghost use Rattle.world_text.specs.Values.{bytes_in};
+ghost use Rattle.world_text.specs.Values.{bytes_in, goes_on_unless};
 
 use crate::NoMemory;
-use crate::expecting::{Parsed, PartialWorld};
-use crate::values::{WordValue, both, caps_of, label_of, syntax, unknown_name};
+use crate::expecting::PartialWorld;
+use crate::values::{WordValue, both, caps_of, label_of};
 use cap_bits::CapState;
 use fs_path::{LineWord, groups_of, number_of};
 use kern_model::{Gid, GroupList, Ids, Uid, WorldProc};
 use lab_lattice::Label;
 use lab_text::Policy;
+use line_text::LineFault;
 use std::alloc::Global;
 
 // The state of a capability text, where what is effective is permitted.
@@ -70,14 +71,14 @@ fn proc_fields_in(
 // A process line whose first four words are these, with these capabilities.
 fn parse_proc(
     alloc: Global,
-    so_far: PartialWorld,
+    so_far: &mut PartialWorld,
     words: &[LineWord<'_>],
     caps: WordValue<CapState>,
-) -> Result<Parsed, NoMemory>
-    ensures { IfOk result (λ parsed. parsed ≡ parse_proc so_far (proc_fields_in so_far.policy (bytes_in words.now)) caps) }
+) -> Result<Option<LineFault>, NoMemory>
+    ensures { IfOk result (λ fault. goes_on_unless fault so_far.new ≡ parse_proc so_far.old (proc_fields_in so_far.old.policy (bytes_in words.now)) caps) }
 {
     let Some(fields) = proc_fields_in(alloc, &so_far.policy, words)? else {
-        return Ok(syntax());
+        return Ok(Some(LineFault::Syntax));
     };
     let ProcFields {
         label,
@@ -86,8 +87,8 @@ fn parse_proc(
         groups,
     } = fields;
     match both(label, caps) {
-        WordValue::Malformed => Ok(syntax()),
-        WordValue::UnknownName => Ok(unknown_name()),
+        WordValue::Malformed => Ok(Some(LineFault::Syntax)),
+        WordValue::UnknownName => Ok(Some(LineFault::UnknownName)),
         WordValue::Known((label, caps)) => {
             let ids = Ids {
                 ruid: user,
@@ -98,7 +99,7 @@ fn parse_proc(
                 sgid: group,
                 groups,
             };
-            so_far.parse_process(WorldProc { label, ids, caps })
+            so_far.parse_process(alloc, WorldProc { label, ids, caps })
         }
     }
 }
@@ -106,13 +107,13 @@ fn parse_proc(
 /// `proc LABEL UID GID GROUPS CAPS`.
 pub fn parse_proc_line(
     alloc: Global,
-    so_far: PartialWorld,
+    so_far: &mut PartialWorld,
     words: &[LineWord<'_>],
-) -> Result<Parsed, NoMemory>
-    ensures { IfOk result (λ parsed. parsed ≡ parse_proc_line so_far (bytes_in words.now)) }
+) -> Result<Option<LineFault>, NoMemory>
+    ensures { IfOk result (λ fault. goes_on_unless fault so_far.new ≡ parse_proc_line so_far.old (bytes_in words.now)) }
 {
     if words.len() != 5 {
-        return Ok(syntax());
+        return Ok(Some(LineFault::Syntax));
     }
     let caps = proc_caps_of(words[4].bytes.items());
     parse_proc(alloc, so_far, words, caps)

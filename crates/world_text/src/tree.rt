@@ -2,17 +2,17 @@
 ghost use Rattle.std.specs.Prelude.{◌≡◌, IfOk};
 ghost use Rattle.kern_model.specs.declared.objects.Body.TheVariants as body;
 ghost use Rattle.world_text.specs.TreeLines.{absolute_path, object_fields_in, object_of, parse_tree, parse_plain, parse_file};
-ghost use Rattle.world_text.specs.Values.{bytes_in};
+ghost use Rattle.world_text.specs.Values.{bytes_in, goes_on_unless};
 
 use crate::NoMemory;
-use crate::expecting::{Parsed, PartialWorld};
-use crate::values::{WordValue, both, caps_of, label_of, syntax, unknown_name};
+use crate::expecting::PartialWorld;
+use crate::values::{WordValue, both, caps_of, label_of};
 use cap_bits::{CapState, FileCaps};
 use fs_path::{LineWord, Path, mode_of, number_of};
 use kern_model::{Attr, Body, Gid, Mode, Uid, WorldObject};
 use lab_lattice::Label;
 use lab_text::Policy;
-use line_text::path_of;
+use line_text::{LineFault, path_of};
 use std::alloc::Global;
 
 // An absolute path. It is kept until the world is taken over, so it takes no more memory than its names need.
@@ -97,19 +97,19 @@ fn object_of(fields: ObjectFields, label: Label, caps: FileCaps, body: Body) -> 
 // A tree line whose first five words are these, with these capabilities and this body.
 fn parse_tree(
     alloc: Global,
-    so_far: PartialWorld,
+    so_far: &mut PartialWorld,
     words: &[LineWord<'_>],
     caps: WordValue<CapState>,
     body: Body,
-) -> Result<Parsed, NoMemory>
-    ensures { IfOk result (λ parsed. parsed ≡ parse_tree so_far (object_fields_in so_far.policy (bytes_in words.now)) caps body) }
+) -> Result<Option<LineFault>, NoMemory>
+    ensures { IfOk result (λ fault. goes_on_unless fault so_far.new ≡ parse_tree so_far.old (object_fields_in so_far.old.policy (bytes_in words.now)) caps body) }
 {
     let Some(fields) = object_fields_in(alloc, &so_far.policy, words)? else {
-        return Ok(syntax());
+        return Ok(Some(LineFault::Syntax));
     };
     match both(fields.label, caps) {
-        WordValue::Malformed => Ok(syntax()),
-        WordValue::UnknownName => Ok(unknown_name()),
+        WordValue::Malformed => Ok(Some(LineFault::Syntax)),
+        WordValue::UnknownName => Ok(Some(LineFault::UnknownName)),
         WordValue::Known((label, state)) => {
             // A line whose capabilities are not uniform is refused, so those of its object are not looked at.
             let caps = FileCaps::from_state(&state);
@@ -122,14 +122,14 @@ fn parse_tree(
 /// `dir PATH MODE UID GID LABEL` or `fifo PATH MODE UID GID LABEL`.
 pub fn parse_plain(
     alloc: Global,
-    so_far: PartialWorld,
+    so_far: &mut PartialWorld,
     words: &[LineWord<'_>],
     body: Body,
-) -> Result<Parsed, NoMemory>
-    ensures { IfOk result (λ parsed. parsed ≡ parse_plain so_far body (bytes_in words.now)) }
+) -> Result<Option<LineFault>, NoMemory>
+    ensures { IfOk result (λ fault. goes_on_unless fault so_far.new ≡ parse_plain so_far.old body (bytes_in words.now)) }
 {
     if words.len() != 5 {
-        return Ok(syntax());
+        return Ok(Some(LineFault::Syntax));
     }
     let caps = WordValue::Known(CapState::none());
     parse_tree(alloc, so_far, words, caps, body)
@@ -145,10 +145,10 @@ fn file_of(word: &LineWord<'_>) -> Result<Body, NoMemory>
 /// `file PATH MODE UID GID LABEL BYTES [CAPS]`.
 pub fn parse_file(
     alloc: Global,
-    so_far: PartialWorld,
+    so_far: &mut PartialWorld,
     words: &[LineWord<'_>],
-) -> Result<Parsed, NoMemory>
-    ensures { IfOk result (λ parsed. parsed ≡ parse_file so_far (bytes_in words.now)) }
+) -> Result<Option<LineFault>, NoMemory>
+    ensures { IfOk result (λ fault. goes_on_unless fault so_far.new ≡ parse_file so_far.old (bytes_in words.now)) }
 {
     if words.len() == 6 {
         let caps = WordValue::Known(CapState::none());
@@ -160,5 +160,5 @@ pub fn parse_file(
         let body = file_of(&words[5])?;
         return parse_tree(alloc, so_far, words, caps, body);
     }
-    Ok(syntax())
+    Ok(Some(LineFault::Syntax))
 }

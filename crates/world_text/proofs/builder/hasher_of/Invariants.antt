@@ -1,7 +1,7 @@
 use Rattle.std.proofs.Common.{◌≡◌, drop}
 use Rattle.std.specs.Hash.FoldHasher as folding
 use Rattle.std.specs.List.{fold}
-use Rattle.world_text.proofs.builder.path_hash.Given as goal
+use Rattle.world_text.proofs.builder.hasher_of.Given as goal
 
 -- what is left gives what all give
 abbrev pub invariant-loop-name : goal.invariant-loop-name
