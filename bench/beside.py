@@ -1,7 +1,7 @@
 #!/usr/bin/env python3
 """Measures two programs on the loads of folders, in turn, so that other work on the machine hits both.
 
-    bench/beside.py --inputs FOLDER [--old-inputs FOLDER] --plain PROGRAM [--cmd PROGRAM] [--runs N] [--scale] [COMMAND..]
+    bench/beside.py --inputs FOLDER [--old-inputs FOLDER] --plain PROGRAM [--cmd PROGRAM] [--runs N] [--scale [--from LOAD=CALL]..] [COMMAND..]
 
 A COMMAND is `play`, `view` or `check`; without one it is each of them. `view` is from the highest label of the load's world. Each
 file FOLDER/NAME.in is a load; with --old-inputs the plain program reads the load of this name in that folder, of the old format of
@@ -9,9 +9,10 @@ worlds. A row has of both programs the best seconds of N runs, the seconds of us
 instructions of one run under valgrind, and the MiB, each with the ratio of labsys to the plain program; of `play` it has the
 ratio of the writes alone too, which are those of pieces.c. It fails where the two write different bytes. With --scale it
 prints another table: for the first eighth, quarter and half of a load and for the whole, the power of its bytes by which
-seconds and instructions grow. It needs a C compiler and valgrind.
+seconds and instructions grow. Where a load begins with calls of another kind, --from takes these off. It needs a C compiler and valgrind.
 """
 import argparse
+import concurrent.futures
 import math
 import os
 import pathlib
@@ -41,11 +42,17 @@ def highest_label(load):
     return lists["levels"][-1] + cats + grade
 
 
-def part_of(load, part, folder):
-    """A file with the first lines of a load, up to a part of its bytes, with the line `script`."""
+def begin_of(text, call):
+    """How many bytes of a load stand before the first call of this name; none without a name."""
+    found = call and re.search(rb"^\d+@\S+ %s\b" % call.encode(), text, re.MULTILINE)
+    return found.start() if found else 0
+
+
+def part_of(load, part, begin, folder):
+    """A file with the first bytes of a load and, up to a part of its bytes, the lines after these, with the line `script`."""
     text = load.read_bytes()
-    first = text[: text.rindex(b"\n", 0, int(len(text) * part)) + 1]
-    path = pathlib.Path(folder) / "part.in"
+    first = text[: text.rindex(b"\n", 0, begin + int((len(text) - begin) * part)) + 1]
+    path = pathlib.Path(folder) / f"{load.stem}.{part}.in"
     path.write_bytes(first if b"\nscript\n" in first else first + b"script\n")
     return path
 
@@ -71,6 +78,7 @@ class Bench:
         self.runs = runs
         self.starter = compiled("start", folder)
         self.pieces = compiled("pieces", folder)
+        self.counting = concurrent.futures.ThreadPoolExecutor(os.cpu_count())
 
     def words(self, name, words):
         """The words, with a file of this program for the trail."""
@@ -83,9 +91,14 @@ class Bench:
             sys.exit(f"{program} ends with status {took.status} on {load}")
         return took
 
-    def instructions(self, name, program, words, load):
+    def instructions(self, program, words, load):
+        """How many instructions a run takes. It is counted when a processor is free, and not while runs are timed."""
+        return self.counting.submit(self.counted, program, words, load)
+
+    def counted(self, program, words, load):
         """How many instructions a run takes."""
-        counting = ["valgrind", "--tool=cachegrind", "--cache-sim=no", f"--cachegrind-out-file={os.devnull}", program, *self.words(name, words)]
+        counting = ["valgrind", "--tool=cachegrind", "--cache-sim=no", f"--cachegrind-out-file={os.devnull}", program]
+        counting += [os.devnull if word == "TRAIL" else word for word in words]
         with open(load, "rb") as text:
             run = subprocess.run(counting, stdin=text, stdout=subprocess.DEVNULL, stderr=subprocess.PIPE, text=True, check=True)
         return int(re.search(r"refs:\s+([\d,]+)", run.stderr).group(1).replace(",", ""))
@@ -99,8 +112,8 @@ class Bench:
         """The load as a program reads it."""
         return self.old_inputs / load.name if name == "plain" and self.old_inputs else load
 
-    def row(self, load, programs, command):
-        """The row of a load."""
+    def timed(self, load, programs, command):
+        """The runs of both programs on a load, and for `play` those of the writes alone."""
         words = WORDS[command](load)
         took = {name: [] for name in [*programs, "pieces"]}
         for _ in range(self.runs):
@@ -111,25 +124,38 @@ class Bench:
                 took["pieces"].append(self.run("pieces", self.pieces, [*files, "TRAIL"], load))
         if self.written("plain") != self.written("labsys"):
             sys.exit(f"the programs write different bytes on {load}")
-        best = {name: min(run.seconds for run in found) for name, found in took.items() if found}
-        user = {name: statistics.median(run.user for run in took[name]) for name in programs}
-        counts = {name: self.instructions(name, program, words, self.load_of(name, load)) for name, program in programs.items()}
-        mib = {name: max(run.mib for run in took[name]) for name in programs}
-        cells = [load.stem]
-        for values, form in ((best, "{:.2f}"), (user, "{:.2f}"), ({name: count / 1e6 for name, count in counts.items()}, "{:,.0f}"), (mib, "{:.1f}")):
-            cells += [f"{form.format(values['labsys'])}, {form.format(values['plain'])}", ratio(values["labsys"], values["plain"])]
-        return cells + ([ratio(best["pieces"], best["plain"])] if command == "play" else [])
+        return took
 
-    def scaled(self, load, program, command):
-        """The row of how a load grows."""
-        words = WORDS[command](load)
-        sizes, seconds, counts = [], [], []
-        for part in (1 / 8, 1 / 4, 1 / 2, 1):
-            path = part_of(load, part, self.folder)
-            sizes.append(path.stat().st_size)
-            seconds.append(min(self.run("labsys", program, words, path).seconds for _ in range(self.runs)))
-            counts.append(self.instructions("labsys", program, words, path))
-        return [load.stem, ", ".join(f"{second:.2f}" for second in seconds), f"{power(sizes, seconds):.2f}", f"{power(sizes, counts):.2f}"]
+    def compared(self, loads, programs, command):
+        """The rows of the loads: all are timed before the first instructions are counted."""
+        timed = {load: self.timed(load, programs, command) for load in loads}
+        counts = {load: {name: self.instructions(program, WORDS[command](load), self.load_of(name, load)) for name, program in programs.items()} for load in loads}
+        for load, took in timed.items():
+            best = {name: min(run.seconds for run in found) for name, found in took.items() if found}
+            user = {name: statistics.median(run.user for run in took[name]) for name in programs}
+            millions = {name: count.result() / 1e6 for name, count in counts[load].items()}
+            mib = {name: max(run.mib for run in took[name]) for name in programs}
+            cells = [load.stem]
+            for values, form in ((best, "{:.2f}"), (user, "{:.2f}"), (millions, "{:,.0f}"), (mib, "{:.1f}")):
+                cells += [f"{form.format(values['labsys'])}, {form.format(values['plain'])}", ratio(values["labsys"], values["plain"])]
+            yield cells + ([ratio(best["pieces"], best["plain"])] if command == "play" else [])
+
+    def grown(self, loads, program, command, begins):
+        """The rows of how loads grow. Where a call is named, the calls before the first of this name are in each part, and are taken off."""
+        parts, seconds = {}, {}
+        for load in loads:
+            begin = begin_of(load.read_bytes(), begins.get(load.stem))
+            parts[load] = begin, [part_of(load, part, begin, self.folder) for part in (*([0] if begin else []), 1 / 8, 1 / 4, 1 / 2, 1)]
+            for path in parts[load][1]:
+                seconds[path] = min(self.run("labsys", program, WORDS[command](load), path).seconds for _ in range(self.runs))
+        counts = {path: self.instructions(program, WORDS[command](load), path) for load, (_, paths) in parts.items() for path in paths}
+        for load, (begin, paths) in parts.items():
+            least = paths[0] if begin else None
+            sizes = [path.stat().st_size - begin for path in paths[-4:]]
+            times = [seconds[path] - seconds.get(least, 0) for path in paths[-4:]]
+            taken_by = [counts[path].result() - (counts[least].result() if begin else 0) for path in paths[-4:]]
+            title = f"{load.stem}, from the first `{begins[load.stem]}` on" if begin else load.stem
+            yield [title, ", ".join(f"{time:.2f}" for time in times), f"{power(sizes, times):.2f}", f"{power(sizes, taken_by):.2f}"]
 
 
 def show(cells):
@@ -151,8 +177,10 @@ def main():
     arguments.add_argument("--cmd", default=BUILT, type=pathlib.Path, metavar="PROGRAM", help="labsys; without it, that of the checkout")
     arguments.add_argument("--runs", default=5, type=int, metavar="N")
     arguments.add_argument("--scale", action="store_true", help="print how seconds and instructions grow")
+    arguments.add_argument("--from", default=[], action="append", dest="begins", metavar="LOAD=CALL", help="with --scale, how this load grows from the first call of this name on")
     arguments.add_argument("commands", nargs="*", choices=[[], *WORDS], metavar="COMMAND", help="play, view or check")
     given = arguments.parse_args()
+    begins = dict(begin.split("=") for begin in given.begins)
     programs = {"labsys": given.cmd.resolve(), "plain": given.plain.resolve()}
     loads = [load for folder in given.inputs for load in sorted(folder.resolve().glob("*.in"))]
     with tempfile.TemporaryDirectory() as folder:
@@ -161,13 +189,13 @@ def main():
             print(f"\n`{command}`:\n")
             if given.scale:
                 head(["Load", "Seconds of an eighth, a quarter, a half, the whole", "Power of seconds", "Power of instructions"])
-                for load in loads:
-                    show(bench.scaled(load, programs["labsys"], command))
+                rows = bench.grown(loads, programs["labsys"], command, begins)
             else:
                 pairs = [cell for of in ("Seconds", "User time", "Million instructions", "MiB") for cell in (f"{of} of `labsys`, plain", "Ratio")]
                 head(["Load", *pairs, *(["The writes alone"] if command == "play" else [])])
-                for load in loads:
-                    show(bench.row(load, programs, command))
+                rows = bench.compared(loads, programs, command)
+            for row in rows:
+                show(row)
 
 
 if __name__ == "__main__":

@@ -5,10 +5,11 @@
 
 It prints the tables of README.md: wall time, and the most memory that the run held at a time. A part is what one section of that
 page has: `inputs`, which are scripts and worlds up to the limits of an input and of a label, `lines`, `directories`, `objects`,
-`descriptors`, `processes`, `attributes`, `commands`, `programs` and `trails`. Without parts it prints all. PROGRAM is the built one where none
+`things`, `descriptors`, `processes`, `attributes`, `commands`, `programs` and `trails`. Without parts it prints all. PROGRAM is the built one where none
 is given; the script `labsys` would add its own time.
 """
 import argparse
+import itertools
 import os
 import pathlib
 import random
@@ -224,6 +225,25 @@ def recorded(records):
     return head + b"".join(texts)
 
 
+def distinct_labels(size):
+    """Files up to this many bytes, each of a label of its own."""
+    cats = [b"c%02d" % n for n in range(64)]
+    labels = map(b",".join, itertools.combinations(cats, 4))
+    head = b"world 2\nlevels l0\ncategories " + b" ".join(cats) + b"\nbound all\ndir / 0777 0 0 l0\n"
+    end = b'proc l0 10 10 - "="\nscript\n1@l0 getpid\n'
+    line = b'file /f%06d 0644 10 10 l0:%s ""\n'
+    files = (size - len(head) - len(end)) // len(line % (0, b",".join(cats[:4])))
+    return head + b"".join(line % pair for pair in zip(range(files), labels)) + end
+
+
+def crowded(labels):
+    """4,095 processes of each of this many labels."""
+    cats = [b"c%02d" % n for n in range(64)]
+    procs = [b'proc l0:%s 10 10 - "="\n' % b",".join(pair) for pair in itertools.islice(itertools.combinations(cats, 2), labels)]
+    head = b"world 2\nlevels l0\ncategories " + b" ".join(cats) + b"\nbound all\ndir / 0777 0 0 l0\n"
+    return head + b"".join(line * 4_095 for line in procs) + b"script\n1@l0:c00,c01 getpid\n"
+
+
 def write_input(path, make, args, counted):
     """Writes an input, and returns how often it has these bytes. A process of its own makes it, since a run begins with the
     memory of the process that starts it."""
@@ -275,7 +295,7 @@ def inputs(run_of):
     for depth in (2, 32):
         for part in (8, 4, 2, 1):
             show(run_of, f"{{:,}} files, {depth} names deep", filled_world, LIMIT // part, depth, counted=b"file ")
-    show(run_of, "{:,} files, 2 names deep, of 3 bytes each", filled_by_threes, counted=b"file ")
+    show(run_of, "{:,} files, 2 names deep, of 3 bytes each", filled_by_threes, counted=b"\nfile ")
 
 
 def lines(run_of):
@@ -312,6 +332,20 @@ def objects(run_of):
         write_input(path, spread, (call, 60_000), b"")
         took = taken(starter, [program, *PLAY], path, os.devnull, folder)
         print(f"| {title} | {path.stat().st_size:,} | {took.seconds:.2f} | {took.mib:.1f} MiB |", flush=True)
+
+
+def things(run_of):
+    """The rows of worlds up to the limit of an input, without the memory of this program, and what a run takes for each thing."""
+    program, folder = run_of
+    starter, path = compiled("start", folder), pathlib.Path(folder) / "input"
+    write_input(path, crowded, (0,), b"")
+    least = taken(starter, [program, "check"], path, os.devnull, folder).mib
+    worlds = {"files of a label each": (distinct_labels, LIMIT, b"\nfile "), "files of twelve labels": (filled_by_threes, None, b"\nfile "), "processes, 4,095 of each label": (crowded, 100, b"\nproc ")}
+    for title, (make, size, counted) in worlds.items():
+        count = write_input(path, make, () if size is None else (size,), counted)
+        took = taken(starter, [program, *PLAY], path, os.devnull, folder)
+        each = (took.mib - least) * 2**20 / count
+        print(f"| {count:,} {title}, {each:,.0f} bytes each | {path.stat().st_size:,} | {took.seconds:.2f} | {took.mib:.1f} MiB |", flush=True)
 
 
 def descriptors(run_of):
@@ -376,7 +410,7 @@ def trails(run_of):
             show(run_of, f"`{' '.join(words)}` of {{:,}} lines", recorded, records, words=words)
 
 
-PARTS = [inputs, lines, directories, objects, descriptors, processes, attributes, commands, programs, trails]
+PARTS = [inputs, lines, directories, objects, things, descriptors, processes, attributes, commands, programs, trails]
 
 
 def main():
