@@ -23,6 +23,8 @@ from started import compiled, taken
 TOP = pathlib.Path(__file__).resolve().parent.parent
 BUILT = TOP / "crates" / "labsys" / "out" / "labsys"
 HEAD = b"world 2\nlevels unc conf sec\ncategories a b\nbound all\ndir / 0777 0 0 unc\n"
+CATS = [b"c%02d" % n for n in range(64)]
+HEAD_OF_CATS = b"world 2\nlevels l0\ncategories " + b" ".join(CATS) + b"\nbound all\ndir / 0777 0 0 l0\n"
 LIMIT = 16_777_216
 
 
@@ -227,21 +229,17 @@ def recorded(records):
 
 def distinct_labels(size):
     """Files up to this many bytes, each of a label of its own."""
-    cats = [b"c%02d" % n for n in range(64)]
-    labels = map(b",".join, itertools.combinations(cats, 4))
-    head = b"world 2\nlevels l0\ncategories " + b" ".join(cats) + b"\nbound all\ndir / 0777 0 0 l0\n"
+    labels = map(b",".join, itertools.combinations(CATS, 4))
     end = b'proc l0 10 10 - "="\nscript\n1@l0 getpid\n'
     line = b'file /f%06d 0644 10 10 l0:%s ""\n'
-    files = (size - len(head) - len(end)) // len(line % (0, b",".join(cats[:4])))
-    return head + b"".join(line % pair for pair in zip(range(files), labels)) + end
+    files = (size - len(HEAD_OF_CATS) - len(end)) // len(line % (0, b",".join(CATS[:4])))
+    return HEAD_OF_CATS + b"".join(line % pair for pair in zip(range(files), labels)) + end
 
 
 def crowded(labels):
     """4,095 processes of each of this many labels."""
-    cats = [b"c%02d" % n for n in range(64)]
-    procs = [b'proc l0:%s 10 10 - "="\n' % b",".join(pair) for pair in itertools.islice(itertools.combinations(cats, 2), labels)]
-    head = b"world 2\nlevels l0\ncategories " + b" ".join(cats) + b"\nbound all\ndir / 0777 0 0 l0\n"
-    return head + b"".join(line * 4_095 for line in procs) + b"script\n1@l0:c00,c01 getpid\n"
+    procs = [b'proc l0:%s 10 10 - "="\n' % b",".join(pair) for pair in itertools.islice(itertools.combinations(CATS, 2), labels)]
+    return HEAD_OF_CATS + b"".join(line * 4_095 for line in procs) + b"script\n1@l0:c00,c01 getpid\n"
 
 
 def write_input(path, make, args, counted):
