@@ -3,6 +3,7 @@ ghost use Rattle.std.specs.Prelude.{◌≡◌, ◌++◌, [], None, Some, OnErr, 
 ghost use Rattle.std.specs.Map.{keys_of};
 ghost use Rattle.kern_model.specs.LabelLists.{IsSet, entries_from};
 
+use crate::place::Place;
 use kern_model::NoMemory;
 use lab_lattice::Label;
 use std::alloc::Global;
@@ -11,7 +12,7 @@ use std::marker::Model;
 /// The keys at the numbers of one label, by the counts of their draws.
 #[derive(Drop)]
 pub struct KeyList {
-    keys: Vec<Option<u32>>,
+    keys: Vec<Place>,
 }
 
 impl Model for KeyList {
@@ -38,7 +39,7 @@ impl KeyList {
     pub fn get(&self, n: u16) -> Option<u32>
         ensures { result ≡ get_or self.now n None }
     {
-        *self.keys.get(n as usize)?
+        self.keys.get(n as usize)?.key()
     }
 
     /// Puts a key at a count, in place of one that is there.
@@ -46,11 +47,12 @@ impl KeyList {
         ensures ok { OnOk result (IsSet None self.old n (Some key) self.new) }
         ensures err { OnErr result (self.new ≡ self.old) }
     {
-        let place = n as usize;
-        if place >= self.keys.len() {
-            self.keys.resize(place + 1, None)?;
+        let place = Place::try_from(key)?;
+        let index = n as usize;
+        if index >= self.keys.len() {
+            self.keys.resize(index + 1, Place::none())?;
         }
-        self.keys[place] = Some(key);
+        self.keys[index] = place;
         Ok(())
     }
 
@@ -71,7 +73,7 @@ impl KeyList {
         ensures { OnOk result (numbers.new.items ≡ numbers.old.items ++ keys_of (entries_from label.now 0 self.now)) }
     {
         for place in 0..self.keys.len() {
-            if self.keys[place].is_some() {
+            if self.keys[place].key().is_some() {
                 numbers.push((*label, place as u16))?;
             }
         }

@@ -4,6 +4,7 @@
 mod key_list;
 mod keys;
 mod number;
+mod place;
 mod table;
 
 pub use kern_model::NoMemory;
