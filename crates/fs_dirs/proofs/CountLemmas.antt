@@ -1,5 +1,5 @@
 -- How many entries pass a test, and which one does, after an entry is set or goes.
-use Rattle.std.specs.Prelude.{◌≡◌, ◌||◌, ◌==◌, not, ℕ, ◌+◌, Bool, true, false, List, [], ◌∷◌, ◌++◌, Some, None, cond, count_by, length, refl}
+use Rattle.std.specs.Prelude.{◌≡◌, ◌&&◌, ◌||◌, ◌==◌, not, ℕ, ◌+◌, Bool, true, false, List, [], ◌∷◌, ◌++◌, Some, None, cond, count_by, length, refl}
 use Rattle.std.specs.declared.cmp.Ordering.{Ordering}
 use Rattle.std.specs.declared.cmp.Ordering.TheVariants.{Less, Equal, Greater}
 use Rattle.std.specs.Ordering.{is_eq, eq_by_cmp}
@@ -39,6 +39,21 @@ module _ {X : Type 0} (p : X → Bool) where
         | true ↦ omega arith
         | false ↦ omega arith
       ]
+
+-- where none passes one test, none passes it and another one
+none_of_both : {X : Type 0} (p q : X → Bool) (xs : List X) → count_by p xs ≡ 0 → count_by (λ (x : X). p x && q x) xs ≡ 0
+none_of_both p q [] h = refl
+none_of_both {X = X} p q (x ∷ xs) h =
+    let one = count-cons p x xs in
+    let both = count-cons (λ (x : X). p x && q x) x xs in
+    elim (p x) as (λ b. p x ≡ b → count_by (λ (x : X). p x && q x) (x ∷ xs) ≡ 0) [
+      | true ↦ λ t. let here : ◌≡◌ {A = ℕ} (cond (p x) 1 0) 1 = ap (λ b. cond {A = ℕ} b 1 0) t in absurd (omega (arith, one, here, h))
+      | false ↦ λ f.
+          let here : ◌≡◌ {A = ℕ} (cond (p x) 1 0) 0 = ap (λ b. cond {A = ℕ} b 1 0) f in
+          let none : ◌≡◌ {A = ℕ} (cond (p x && q x) 1 0) 0 = ap (λ b. cond {A = ℕ} (b && q x) 1 0) f in
+          let rest = none_of_both p q xs (omega (arith, one, here, h)) in
+          omega (arith, both, none, rest)
+    ] refl
 
 -- ---- tables
 no_elements : {X : Type 0} (xs : List X) → length xs ≡ 0 → xs ≡ []
@@ -128,6 +143,11 @@ module _ {K X : Type 0} {R : K → K → Ordering} (p : K → X → Bool) where
       -- an entry that is set counts where it passes, beside those at other keys
       pub count_entries-set : (m : FinMap R X) (k : K) (x : X) → count_entries p (table.insert m k x) ≡ cond (p k x) 1 0 + count_entries p (table.remove m k)
       count_entries-set m k x = ap (count_entries p) (sym (insert-removed o exact m k x)) ∙ count_entries-insert (table.remove m k) k x (get-remove_same o m k)
+
+  -- where none passes, none passes another test too
+  pub count_entries-both : (q : K → X → Bool) (m : FinMap R X) → count_entries p m ≡ 0 → count_entries (λ (k : K) (x : X). p k x && q k x) m ≡ 0
+  unfolding count_entries
+  count_entries-both q m h = none_of_both (λ (e : K × X). p e.0 e.1) (λ (e : K × X). q e.0 e.1) (table.entries m) h
 
   -- and where none passes, none is
   pub none_passing : (m : FinMap R X) → count_entries p m ≡ 0 → list.find (λ (e : K × X). p e.0 e.1) (table.entries m) ≡ None

@@ -4,6 +4,7 @@ pub mod CountLemmas
 pub mod DirLemmas
 pub mod Halving
 pub mod HeadLemmas
+pub mod HolderLabelLemmas
 pub mod LentLists
 pub mod LinkLemmas
 pub mod LoadLemmas
@@ -11,5 +12,7 @@ pub mod MoveLemmas
 pub mod Names
 pub mod SameEntries
 pub mod Sorted
+pub mod SortedHolders
 pub mod TierLemmas
+pub mod TreeLabelLemmas
 pub mod TreeLemmas

@@ -1,5 +1,5 @@
 -- The index of the names of objects, after an entry is set or goes.
-use Rattle.std.specs.Prelude.{◌≡◌, ◌&&◌, ◌||◌, not, ℕ, ◌+◌, ◌-◌, ◌≤◌, ◌==◌, Bool, true, false, List, [], ◌∷◌, Option, Some, None, IfSome, IsSome, cond, get_or, is_some, refl, slice_get}
+use Rattle.std.specs.Prelude.{◌≡◌, ◌&&◌, ◌||◌, not, ℕ, ◌+◌, ◌-◌, ◌<◌, ◌≤◌, ◌==◌, Bool, true, false, List, [], ◌∷◌, Option, Some, None, IfSome, IsSome, cond, get_or, is_some, refl, slice_get}
 use Rattle.std.specs.Ordering.{is_eq}
 use Rattle.std.specs.List.{find, list_all}
 use Rattle.std.specs.Option.{option_map}
@@ -25,7 +25,7 @@ use Rattle.fs_nodes.proofs.Places.{one_number}
 use Rattle.kern_model.proofs.ByNumber.{item_set_by}
 use Rattle.kern_model.proofs.NumberLaws.{oids}
 use Rattle.fs_dirs.specs.declared.links.Holder.{Holder}
-use Rattle.fs_dirs.specs.Entries.{AreHolders, AreIndexed, HasLess, HasMore, Holders, IsIn, IsWith, entries_alone, holders_at, name_count, names_in_all, names_where}
+use Rattle.fs_dirs.specs.Entries.{AreHolders, AreIndexed, HasLess, HasMore, Holders, IsIn, IsWith, dir_of, entries_alone, holders_at, name_count, names_in_all, names_where}
 use Rattle.fs_dirs.proofs.CountLemmas.{any_entry-count, count-cons, count_entries-empty, count_entries-insert, count_entries-remove, count_entries-set, insert-remove, passing}
 
 pub itself : (id : Oid) → same_oid id id ≡ true
@@ -33,11 +33,56 @@ itself id = ap is_eq (tied_itself oid_cmp_total id)
 
 -- ---- lists of directories
 -- how many names stand in a directory, if it passes
-names-cons : (test : Oid → Bool) (h : Holder) (hs : List Holder) → names_where test (h ∷ hs) ≡ cond (test h.dir) (h.further + 1) 0 + names_where test hs
-names-cons test h hs = sum_by-cons (λ (h : Holder). cond (test h.dir) (h.further + 1) 0) h hs
+pub names-cons : (test : Oid → Bool) (h : Holder) (hs : List Holder) → names_where test (h ∷ hs) ≡ cond (test (dir_of h)) (h.further + 1) 0 + names_where test hs
+names-cons test h hs = sum_by-cons (λ (h : Holder). cond (test (dir_of h)) (h.further + 1) 0) h hs
 
 nothing_more : (n : ℕ) → n ≡ 0 + n
 nothing_more n = omega arith
+
+-- a directory
+module _ (h : Holder) (dir : Oid) where
+  -- where one of its names is in a directory, it is that one
+  pub only_in : IsIn dir (h ∷ []) → dir_of h ≡ dir
+  only_in some =
+      let one = names-cons (λ (d : Oid). same_oid d dir) h [] in
+      elim (same_oid (dir_of h) dir) as (λ b. same_oid (dir_of h) dir ≡ b → dir_of h ≡ dir) [
+        | true ↦ λ t. same_key oid_cmp_exact (dir_of h) dir t
+        | false ↦ λ f. let none : ◌≡◌ {A = ℕ} (cond (same_oid (dir_of h) dir) (h.further + 1) 0) 0 = ap (λ b. cond {A = ℕ} b (h.further + 1) 0) f in absurd (omega (arith, one, none, some))
+      ] refl
+
+  -- with one name more there
+  pub with_one : (g : Holder) → dir_of h ≡ dir → dir_of g ≡ dir → g.further ≡ h.further + 1 → IsWith (h ∷ []) dir (g ∷ [])
+  with_one g before after more test =
+      let old = names-cons test h [] in
+      let new = names-cons test g [] in
+      let at = ap (λ (d : Oid). cond {A = ℕ} (test d) (h.further + 1) 0) before in
+      let at_new = ap (λ (d : Oid). cond {A = ℕ} (test d) (g.further + 1) 0) after in
+      elim (test dir) as (λ b. test dir ≡ b → names_where test (g ∷ []) ≡ cond (test dir) 1 0 + names_where test (h ∷ [])) [
+        | true ↦ λ t.
+            let passes : (n : ℕ) → ◌≡◌ {A = ℕ} (cond (test dir) n 0) n = λ n. ap (λ b. cond {A = ℕ} b n 0) t in
+            let p1 = passes (h.further + 1) in
+            let p2 = passes (g.further + 1) in
+            let p3 = passes 1 in
+            omega (arith, old, new, at, at_new, p1, p2, p3, more)
+        | false ↦ λ f.
+            let fails : (n : ℕ) → ◌≡◌ {A = ℕ} (cond (test dir) n 0) 0 = λ n. ap (λ b. cond {A = ℕ} b n 0) f in
+            let p1 = fails (h.further + 1) in
+            let p2 = fails (g.further + 1) in
+            let p3 = fails 1 in
+            omega (arith, old, new, at, at_new, p1, p2, p3)
+      ] refl
+
+-- not more names stand in directories that pass a test than in all
+pub names_within : (test : Oid → Bool) (holders : List Holder) → names_where test holders ≤ names_in_all holders
+names_within test [] = omega arith
+names_within test (h ∷ hs) =
+    let some = names-cons test h hs in
+    let all = names-cons (λ (d : Oid). true) h hs in
+    let rest = names_within test hs in
+    elim (test (dir_of h)) as (λ b. test (dir_of h) ≡ b → names_where test (h ∷ hs) ≤ names_in_all (h ∷ hs)) [
+      | true ↦ λ t. let here : ◌≡◌ {A = ℕ} (cond (test (dir_of h)) (h.further + 1) 0) (h.further + 1) = ap (λ b. cond {A = ℕ} b (h.further + 1) 0) t in omega (arith, some, all, rest, here)
+      | false ↦ λ f. let here : ◌≡◌ {A = ℕ} (cond (test (dir_of h)) (h.further + 1) 0) 0 = ap (λ b. cond {A = ℕ} b (h.further + 1) 0) f in omega (arith, some, all, rest, here)
+    ] refl
 
 -- ---- the names of one object change
 -- what holds of the object's directories now, and of all others as they were, holds of all
@@ -60,7 +105,7 @@ module _ (holders : Holders) (id : Oid) (dirs : List Holder) (after : Holders) (
 -- the same by the list of its label
 module _ (holders : Holders) (id : Oid) {list : List (List Holder)} {after : Holders} (left : List (List Holder)) (found : list_at holders id.label ≡ list) (is : after ≡ table.insert holders id.label left) where
   -- where its directories alone are others in the list of its label, they alone are others
-  set_at : (dirs : List Holder) → IsSet [] list id.n dirs left → (q : Oid) → holders_at after q ≡ cond (same_oid q id) dirs (holders_at holders q)
+  pub set_at : (dirs : List Holder) → IsSet [] list id.n dirs left → (q : Oid) → holders_at after q ≡ cond (same_oid q id) dirs (holders_at holders q)
   set_at dirs put q =
       ap (λ (h : Holders). holders_at h q) is ∙ item_set_by oids holders id left [] dirs (subst (λ (r : List (List Holder)). IsSet [] r id.n dirs left) (sym found) put) q
 
@@ -88,11 +133,11 @@ module _ (holders : Holders) (id : Oid) {list : List (List Holder)} {after : Hol
       less_set holders id dirs after (set_at dirs put) dir (subst (λ (r : List (List Holder)). IsWith dirs dir (get_or r id.n [])) (sym found) less)
 
 -- ---- the list of a label
--- none of the names of an object is in a directory, where its label has no list
-pub never_absent : (holders : Holders) (id dir : Oid) → IsIn dir (holders_at holders id) → list_at holders id.label ≡ [] → ⊥
-never_absent holders id dir is_in absent =
-    let none : names_where (λ (d : Oid). same_oid d dir) (holders_at holders id) ≡ 0 = ap (λ (r : List (List Holder)). names_where (λ (d : Oid). same_oid d dir) (get_or r id.n [])) absent in
-    omega (arith, none, is_in)
+-- none of the names of an object is in any directory, where its label has no list
+pub never_absent : (holders : Holders) (id : Oid) (test : Oid → Bool) → 0 < names_where test (holders_at holders id) → list_at holders id.label ≡ [] → ⊥
+never_absent holders id test some absent =
+    let none : names_where test (holders_at holders id) ≡ 0 = ap (λ (r : List (List Holder)). names_where test (get_or r id.n [])) absent in
+    omega (arith, none, some)
 
 -- ---- an object's names, counted
 module _ (entries : FinMap spot_cmp Oid) (id : Oid) (dirs : List Holder) (are : AreHolders entries id dirs) where
@@ -106,10 +151,10 @@ module _ (entries : FinMap spot_cmp Oid) (id : Oid) (dirs : List Holder) (are : 
 
 -- the directory of the one entry that leads to an object
 first_holder : (id : Oid) (h : Holder) (es : List (Spot × Oid)) → ((test : Oid → Bool) → names_where test (h ∷ []) ≡ passing (λ (spot : Spot) (at : Oid). same_oid at id && test spot.0) es)
-    → option_map (λ (e : Spot × Oid). e.0.0) (find (λ (e : Spot × Oid). same_oid e.1 id) es) ≡ Some h.dir
+    → option_map (λ (e : Spot × Oid). e.0.0) (find (λ (e : Spot × Oid). same_oid e.1 id) es) ≡ Some (dir_of h)
 first_holder id h [] are = let all = are (λ (d : Oid). true) in let one = names-cons (λ (d : Oid). true) h [] in absurd (omega (arith, all, one))
 first_holder id h (e ∷ es) are =
-    elim (same_oid e.1 id) as (λ b. same_oid e.1 id ≡ b → option_map (λ (e : Spot × Oid). e.0.0) (cond b (Some e) (find (λ (e : Spot × Oid). same_oid e.1 id) es)) ≡ Some h.dir) [
+    elim (same_oid e.1 id) as (λ b. same_oid e.1 id ≡ b → option_map (λ (e : Spot × Oid). e.0.0) (cond b (Some e) (find (λ (e : Spot × Oid). same_oid e.1 id) es)) ≡ Some (dir_of h)) [
       | true ↦ λ t.
           let test : Oid → Bool = λ (d : Oid). same_oid d e.0.0 in
           let leads : Spot → Oid → Bool = λ (spot : Spot) (at : Oid). same_oid at id && test spot.0 in
@@ -117,9 +162,9 @@ first_holder id h (e ∷ es) are =
           let here : ◌≡◌ {A = ℕ} (cond (same_oid e.1 id && same_oid e.0.0 e.0.0) 1 0) 1 = ap (λ b. cond {A = ℕ} (b && same_oid e.0.0 e.0.0) 1 0) t ∙ ap (λ b. cond {A = ℕ} b 1 0) (itself e.0.0) in
           let all = are test in
           let one = names-cons test h [] in
-          elim (same_oid h.dir e.0.0) as (λ b. same_oid h.dir e.0.0 ≡ b → Some e.0.0 ≡ Some h.dir) [
-            | true ↦ λ s. ap Some (sym (same_key oid_cmp_exact h.dir e.0.0 s))
-            | false ↦ λ f. let none : ◌≡◌ {A = ℕ} (cond (same_oid h.dir e.0.0) (h.further + 1) 0) 0 = ap (λ b. cond {A = ℕ} b (h.further + 1) 0) f in absurd (omega (arith, step, here, all, one, none))
+          elim (same_oid (dir_of h) e.0.0) as (λ b. same_oid (dir_of h) e.0.0 ≡ b → Some e.0.0 ≡ Some (dir_of h)) [
+            | true ↦ λ s. ap Some (sym (same_key oid_cmp_exact (dir_of h) e.0.0 s))
+            | false ↦ λ f. let none : ◌≡◌ {A = ℕ} (cond (same_oid (dir_of h) e.0.0) (h.further + 1) 0) 0 = ap (λ b. cond {A = ℕ} b (h.further + 1) 0) f in absurd (omega (arith, step, here, all, one, none))
           ] refl
       | false ↦ λ f. first_holder id h es (λ test. are test ∙ count-cons (λ (e : Spot × Oid). same_oid e.1 id && test e.0.0) e es
           ∙ ap (λ b. cond {A = ℕ} (b && test e.0.0) 1 0 + passing (λ (spot : Spot) (at : Oid). same_oid at id && test spot.0) es) f
@@ -142,7 +187,7 @@ no_holder id (e ∷ es) are =
     ] refl
 
 -- the first of an object's directories, where it has no second name, is the one that holds it
-pub holder_first : (entries : FinMap spot_cmp Oid) (id : Oid) (dirs : List Holder) → AreHolders entries id dirs → name_count entries id ≤ 1 → (w : Option Oid) → w ≡ option_map (λ (h : Holder). h.dir) (slice_get dirs 0) → w ≡ holder (entries_alone entries) id
+pub holder_first : (entries : FinMap spot_cmp Oid) (id : Oid) (dirs : List Holder) → AreHolders entries id dirs → name_count entries id ≤ 1 → (w : Option Oid) → w ≡ option_map dir_of (slice_get dirs 0) → w ≡ holder (entries_alone entries) id
 unfolding holder count_entries
 holder_first entries id [] are one w is = is ∙ sym (no_holder id (table.entries entries) are)
 holder_first entries id (h ∷ []) are one w is = is ∙ sym (first_holder id h (table.entries entries) are)
@@ -252,20 +297,20 @@ any_further false k n m e = let same : n ≡ m = omega arith in ap (λ j. not (j
 
 module _ (p : Oid → Bool) where
   -- all pass where no name stands in one that does not
-  all_pass : (dirs : List Holder) → list_all (λ (h : Holder). p h.dir) dirs ≡ not (not (names_where (λ (d : Oid). not (p d)) dirs == 0))
+  all_pass : (dirs : List Holder) → list_all (λ (h : Holder). p (dir_of h)) dirs ≡ not (not (names_where (λ (d : Oid). not (p d)) dirs == 0))
   all_pass [] = refl
   all_pass (h ∷ hs) =
       let fails : Oid → Bool = λ (d : Oid). not (p d) in
-      ap (λ b. p h.dir && b) (all_pass hs)
-      ∙ both (p h.dir) (not (names_where fails hs == 0))
-      ∙ ap not (any_further (fails h.dir) h.further (names_where fails hs) (names_where fails (h ∷ hs)) (names-cons fails h hs))
+      ap (λ b. p (dir_of h) && b) (all_pass hs)
+      ∙ both (p (dir_of h)) (not (names_where fails hs == 0))
+      ∙ ap not (any_further (fails (dir_of h)) h.further (names_where fails hs) (names_where fails (h ∷ hs)) (names-cons fails h hs))
     where
       both : (a b : Bool) → (a && not b) ≡ not (not a || b)
       both true b = refl
       both false b = refl
 
 -- all pass where no entry leads to the object from one that does not
-pub all_hold : (entries : FinMap spot_cmp Oid) (id : Oid) (dirs : List Holder) → AreHolders entries id dirs → (p : Oid → Bool) → list_all (λ (h : Holder). p h.dir) dirs ≡ not (any_entry (λ (spot : Spot) (at : Oid). same_oid at id && not (p spot.0)) entries)
+pub all_hold : (entries : FinMap spot_cmp Oid) (id : Oid) (dirs : List Holder) → AreHolders entries id dirs → (p : Oid → Bool) → list_all (λ (h : Holder). p (dir_of h)) dirs ≡ not (any_entry (λ (spot : Spot) (at : Oid). same_oid at id && not (p spot.0)) entries)
 all_hold entries id dirs are p =
     all_pass p dirs ∙ ap (λ n. not (not (n == 0))) (are (λ (d : Oid). not (p d)))
     ∙ ap not (sym (any_entry-count (λ (spot : Spot) (at : Oid). same_oid at id && not (p spot.0)) entries))

@@ -3,14 +3,16 @@ use Rattle.std.proofs.Common.{◌≡◌, ℕ, zero, suc, ◌+◌, ◌<◌, ◌�
 use Rattle.std.specs.Prelude.{T, not, cond, map}
 use Rattle.std.specs.declared.cmp.Ordering.{Ordering}
 use Rattle.std.specs.declared.cmp.Ordering.TheVariants.{Less, Equal, Greater}
-use Rattle.std.specs.Ordering.{eq_by_cmp, is_eq, is_lt, ordering_reverse}
+use Rattle.std.specs.Ordering.{eq_by_cmp, is_eq, is_lt, ordering_index, ordering_reverse}
 use Rattle.std.specs.Cmp.{IsTotalOrder, eq_by_cmp_equiv}
 use Rattle.std.specs.List.{AllWithin, HoldsAt, insert, remove}
+use Rattle.std.specs.List.Sorted.{IsNonDecreasingBy}
 use Rattle.std.specs.FinMap as map
 use Rattle.std.specs.FinMap.{IsAntisymmetric, find, put, is_sorted, from_sorted, entries-from_sorted, entries-insert, get-from_sorted, get-remove, same_entries_map, same_map}
 use Rattle.std.specs.FinMap.Entries.{below_all, by_order, where_key, is_sorted-put, is_sorted-where_key, find-where_key}
 use Rattle.std.proofs.lemmas.Bool.{cases_lt}
 use Rattle.std.proofs.lemmas.List.{get_or_default}
+use Rattle.std.proofs.lemmas.List.Sorted.{searchable_from_sorted}
 use Rattle.std.proofs.lemmas.Cmp.{alike_right, tied_back}
 use Rattle.kern_model.proofs.MapLemmas.{head_T, tail_T}
 
@@ -53,6 +55,10 @@ module _ {A K X : Type 0} (pair : A → K × X) {R : K → K → Ordering} (o : 
       ∙ ap (λ fs. e ∷ fs) (all_kept j k es tie (tail_T _ _ h))
 
   -- ---- what a search finds
+  -- the answers to a key rise, as a binary search asks
+  pub answers_rise : (xs : List A) (k : K) → T (is_sorted R (map pair xs)) → IsNonDecreasingBy (λ a. ordering_index (R (pair a).0 k)) xs
+  answers_rise xs k h = searchable_from_sorted o (λ a. (pair a).0) xs k (λ i d from below. ap is_lt (back _ _ (rises xs h i (i + 1) d (omega arith) below)))
+
   -- an item before one that is too small is too small
   pub less_upto : (xs : List A) (k : K) (i : ℕ) → T (is_sorted R (map pair xs)) → i < length xs → HoldsAt (λ a. R (pair a).0 k ≡ Less) xs i → AllWithin (λ a. R (pair a).0 k ≡ Less) xs 0 (i + 1)
   less_upto xs k i h within here j d from below = elim (cases_lt j i) [

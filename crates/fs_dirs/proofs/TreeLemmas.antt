@@ -111,7 +111,7 @@ module _ (table : NodeTable) (label : Label) (o : Object) (drawn_already : (id :
   drawn_new : last_drawn (map.insert table.numbers label (last + 1)) label ≡ last + 1
   drawn_new = get_or-found (map.insert table.numbers label (last + 1)) label 0 (last + 1) (get-insert_same label_cmp_total table.numbers label (last + 1))
 
-  still_there : (q : Oid) (x : Object) → map.get table.objects q ≡ Some x → map.get (map.insert table.objects (next_in table label) o) q ≡ Some x
+  pub still_there : (q : Oid) (x : Object) → map.get table.objects q ≡ Some x → map.get (map.insert table.objects (next_in table label) o) q ≡ Some x
   still_there q x e = get-insert_kept oid_cmp_total oid_cmp_exact table.objects (next_in table label) o new_absent q x e
 
   made_drawn : (q : Oid) (x : Object) → map.get (map.insert table.objects (next_in table label) o) q ≡ Some x → q.n ≤ last_drawn (map.insert table.numbers label (last + 1)) q.label

@@ -72,9 +72,17 @@ name_count entries id = link_count (entries_alone entries) id
 abbrev pub count_in : FinMap spot_cmp Oid → Oid → (Oid → Bool) → ℕ
 count_in entries id test = count_entries (λ (spot : Spot) (at : Oid). same_oid at id && test spot.0) entries
 
+-- the number of a directory that holds an object
+abbrev pub dir_of : Holder → Oid
+dir_of h = record { label = h.label; n = h.n }
+
+-- a directory that holds one name
+abbrev pub first_name : Oid → Holder
+first_name dir = record { label = dir.label; n = dir.n; further = 0 }
+
 -- how many names stand in directories that pass a test
 abbrev pub names_where : (Oid → Bool) → List Holder → ℕ
-names_where test holders = sum_by (λ (h : Holder). cond (test h.dir) (h.further + 1) 0) holders
+names_where test holders = sum_by (λ (h : Holder). cond (test (dir_of h)) (h.further + 1) 0) holders
 
 -- how many names stand in all directories
 abbrev pub names_in_all : List Holder → ℕ
@@ -107,6 +115,10 @@ IsWith holders dir more = (test : Oid → Bool) → names_where test more ≡ co
 -- the same names of all objects, and one more of one object
 abbrev pub HasMore : Holders → Oid → Oid → Holders → Type 0
 HasMore holders id dir more = (q : Oid) (test : Oid → Bool) → names_where test (holders_at more q) ≡ cond (same_oid id q && test dir) 1 0 + names_where test (holders_at holders q)
+
+-- the same names of all other objects, and of one object one name alone, in a directory
+abbrev pub HasOnly : Holders → Oid → Oid → Holders → Type 0
+HasOnly holders id dir only = (q : Oid) → holders_at only q ≡ cond (same_oid q id) (first_name dir ∷ []) (holders_at holders q)
 
 -- the same names of all objects, and one less of an object, if there is one
 abbrev pub HasLess : Holders → Option Oid → Oid → Holders → Type 0

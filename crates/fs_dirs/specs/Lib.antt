@@ -2,6 +2,8 @@ pub mod Below
 pub mod Directory
 pub mod Entries
 pub mod Head
+pub mod HolderLabels
 pub mod Lending
+pub mod Links
 pub mod Tiers
 pub mod Tree

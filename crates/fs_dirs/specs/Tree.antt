@@ -19,6 +19,7 @@ use Rattle.kern_model.specs.State.{State, last_drawn, look, object_at, root}
 use Rattle.kern_model.specs.Valid.{IsDir}
 use Rattle.fs_nodes.specs.Nodes.{NodeSlots, NodeTable, with_object}
 use Rattle.fs_dirs.specs.Entries.{entries_alone, name_count}
+use Rattle.fs_dirs.specs.HolderLabels.{AreCounted, Counts, names_by_label}
 
 -- objects with their places, and the entries of directories
 pub record TreeView : Type 0 where
@@ -67,6 +68,11 @@ pub record AreEntries (table : NodeTable) (entries : FinMap spot_cmp Oid) : Type
   pub dirs : (spot : Spot) (id : Oid) → map.get entries spot ≡ Some id → IsDir table.objects spot.0
   pub few : (id : Oid) → name_count entries id ≤ MAX_LINKS
   pub single : (id : Oid) → 1 < name_count entries id → IsNoDir table.objects id
+
+-- the entries are such, and what is counted of objects are the names that they have in directories of each label
+pub record IsTree (table : NodeTable) (entries : FinMap spot_cmp Oid) (labels : FinMap oid_cmp Counts) : Type 0 where
+  pub are_entries : AreEntries table entries
+  pub counted : AreCounted labels (names_by_label table.objects entries)
 
 -- an object may get one more name: it has few, is neither a pipe nor the root, and a directory gets no second one
 pub record MayBeAdded (s : State) (id : Oid) : Type 0 where

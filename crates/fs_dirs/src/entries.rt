@@ -1,15 +1,14 @@
 // The entries of all directories.
-ghost use Rattle.std.specs.Prelude.{◌≡◌, ◌-◌, ◌<◌, ◌≤◌, false, IfOk, IsSome, OnErr, OnOk, cond, is_some, slice_get};
+ghost use Rattle.std.specs.Prelude.{◌≡◌, ◌-◌, ◌<◌, ◌≤◌, false, IfOk, IsSome, OnErr, OnOk, Some, cond, is_some, slice_get};
 ghost use Rattle.std.specs.Ordering.{eq_by_cmp};
 ghost use Rattle.std.specs.FinMap as map;
-ghost use Rattle.kern_model.specs.declared.limits.TheConstants.{MAX_LINKS};
 ghost use Rattle.kern_model.specs.Keys.{spot_cmp};
 ghost use Rattle.kern_model.specs.Entries.{entry_count, holder, link_count, names_in};
 ghost use Rattle.fs_dirs.specs.Directory.{TakesFewSteps};
 ghost use Rattle.fs_dirs.specs.Entries.{AreHolders, entries_alone, objects_in, spot_of};
 
 use crate::dirs::Dirs;
-use crate::links::{Holder, LinkTable, count_names, first_dir};
+use crate::links::{Holder, LinkTable, first_dir};
 use crate::spots::SpotRef;
 use fs_path::{Name, NameList, NoMemory, Steps};
 use kern_model::Oid;
@@ -138,12 +137,11 @@ impl Entries {
         first_dir(self.names.holders(id))
     }
 
-    /// How many names an object has, where it has few.
+    /// How many names an object has.
     pub fn name_count(&self, id: &Oid) -> u32
-        requires { link_count (entries_alone self.now) id.now ≤ MAX_LINKS }
         ensures { result ≡ link_count (entries_alone self.now) id.now }
     {
-        count_names(self.names.holders(id))
+        self.names.count(id)
     }
 
     /// Has an entry lead to an object, in place of the one to which it led.
@@ -178,19 +176,45 @@ impl Entries {
         removed
     }
 
-    /// Removes the entry at a spot, and has that at another one lead to an object, in place of the one to which it led.
+    /// Removes the entry of an object at a spot, and has that at another one lead to the object, in place of the one to which it
+    /// led.
     pub fn relocate(
         &mut self,
         from: &SpotRef<'_>,
         to: &SpotRef<'_>,
         id: &Oid,
     ) -> Result<(), NoMemory>
-        requires { eq_by_cmp spot_cmp (spot_of from.now) (spot_of to.now) ≡ false }
+        requires there { map.get self.old (spot_of from.now) ≡ Some id.now }
+        requires apart { eq_by_cmp spot_cmp (spot_of from.now) (spot_of to.now) ≡ false }
         ensures moved { OnOk result (self.new ≡ map.insert (map.remove self.old (spot_of from.now)) (spot_of to.now) id.now) }
         ensures err { OnErr result (self.new ≡ self.old) }
     {
+        if self.names.count(id) == 1 {
+            return self.relocate_only(from, to, id);
+        }
         self.insert(to.dir, to.name.copy()?, id)?;
         self.remove(from.dir, from.name);
+        Ok(())
+    }
+
+    // The same, where the object has no other name.
+    fn relocate_only(
+        &mut self,
+        from: &SpotRef<'_>,
+        to: &SpotRef<'_>,
+        id: &Oid,
+    ) -> Result<(), NoMemory>
+        requires there { map.get self.old (spot_of from.now) ≡ Some id.now }
+        requires apart { eq_by_cmp spot_cmp (spot_of from.now) (spot_of to.now) ≡ false }
+        requires only { link_count (entries_alone self.old) id.now ≡ 1 }
+        ensures moved { OnOk result (self.new ≡ map.insert (map.remove self.old (spot_of from.now)) (spot_of to.now) id.now) }
+        ensures err { OnErr result (self.new ≡ self.old) }
+    {
+        let replaced = self.dirs.insert(to.dir, to.name.copy()?, id)?;
+        self.dirs.remove(from.dir, from.name);
+        self.names.set_only(id, to.dir);
+        self.names.drop_name(&replaced, to.dir);
+        self.total = without_one(self.total, &replaced);
         Ok(())
     }
 }

@@ -2,10 +2,12 @@
 #![tactic(auto)]
 
 mod below;
+mod counting;
 mod directory;
 mod dirs;
 mod entries;
 mod head;
+mod holder_labels;
 mod links;
 mod slot;
 mod spots;

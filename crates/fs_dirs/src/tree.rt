@@ -13,11 +13,16 @@ ghost use Rattle.kern_model.specs.declared.limits.TheConstants.{MAX_FILE_BYTES, 
 ghost use Rattle.fs_nodes.specs.Nodes.{IsFile, next_in, with_new};
 ghost use Rattle.fs_dirs.specs.declared.links.Holder.{Holder as Held};
 ghost use Rattle.fs_dirs.specs.Directory.{TakesFewSteps};
+ghost use Rattle.fs_dirs.specs.Entries.{dir_of};
 ghost use Rattle.fs_dirs.specs.Tree.{AreEntries, HasObject, IfEntry, IfObject, IsAbsentFromRemoved, MayBeAdded, MayEnterRemoved, root_alone, state_of_tree, with_moved, would_loop};
 
 use crate::NoMemory;
 use crate::below::Below;
+use crate::counting::{
+    clear_counts, count_labels, count_name, look_where_counted, uncount_found, uncount_name,
+};
 use crate::entries::Entries;
+use crate::holder_labels::HolderLabels;
 use crate::links::Holder;
 use crate::spots::{SpotRef, Spots};
 use fs_nodes::{Buffers, NodeError, Nodes, WriteError};
@@ -76,11 +81,16 @@ impl From<NoMemory> for MoveError {
 #[derive(Clone, Copy, Debug, PartialEq, Eq)]
 pub struct Absent;
 
+// Where fewer directories hold an object, a label is compared to that of each.
+const FEW: usize = 16;
+
 /// The objects, and the entries of the directories among them.
 pub struct Tree {
     alloc: Global,
     nodes: Nodes,
     entries: Entries,
+    // How many names stand at each label, of each object that got a new label while many directories held it.
+    labels: HolderLabels,
 }
 
 impl Drop for Tree {
@@ -89,6 +99,7 @@ impl Drop for Tree {
             alloc: _,
             nodes: _,
             entries: _,
+            labels: _,
         } = self;
     }
 }
@@ -97,7 +108,7 @@ impl Model for Tree {
     ghost use Rattle.std.specs.FinMap as map;
     ghost use Rattle.lab_lattice.specs.Label.{label_code};
     ghost use Rattle.fs_nodes.specs.Nodes.{slots_code};
-    ghost use Rattle.fs_dirs.specs.Tree.{AreEntries, TreeView, tree_code};
+    ghost use Rattle.fs_dirs.specs.Tree.{IsTree, TreeView, tree_code};
     ghost use Rattle.kern_model.proofs.StateCode.{object_code, oid_code, spot_code};
 
     ghost Value = { TreeView };
@@ -106,7 +117,7 @@ impl Model for Tree {
 
     ghost view = { λ t. record { nodes = t.nodes; entries = t.entries } };
 
-    ghost invariant = { λ t. AreEntries t.nodes.table t.entries };
+    ghost invariant = { λ t. IsTree t.nodes.table t.entries t.labels };
 }
 
 /// The number of the root directory.
@@ -150,6 +161,7 @@ impl Tree {
             alloc,
             nodes,
             entries,
+            labels: HolderLabels::new(alloc),
         })
     }
 
@@ -163,6 +175,7 @@ impl Tree {
             alloc,
             nodes,
             entries: spots.into_entries(),
+            labels: HolderLabels::new(alloc),
         })
     }
 
@@ -233,19 +246,26 @@ impl Tree {
 
     // Whether a label dominates those of all these directories.
     fn are_below(&self, holders: &[Holder], label: &Label) -> bool
-        ensures { result ≡ list_all (λ (h : Held). dominates label.now (object_at (state_of_tree self.now) h.dir).label) holders.now }
+        ensures { result ≡ list_all (λ (h : Held). dominates label.now (object_at (state_of_tree self.now) (dir_of h)).label) holders.now }
     {
         holders
             .iter()
-            .all(|holder| self.is_below(&holder.dir, label))
+            .all(|holder| self.is_below(&holder.dir(), label))
     }
 
-    /// Whether a label dominates those of all directories that hold a name of an object. It looks at each of them once. It
-    /// takes no memory.
+    /// Whether a label dominates those of all directories that hold a name of an object. It looks at each of them once, or
+    /// where these are many and their labels are counted, at each label. It takes no memory.
     pub fn is_above_holders(&self, id: &Oid, label: &Label) -> bool
         ensures { (s : State) → s.objects ≡ self.now.nodes.table.objects → s.entries ≡ self.now.entries → result ≡ is_above_holders s id.now label.now }
     {
-        self.are_below(self.entries.holders(id), label)
+        let holders = self.entries.holders(id);
+        if holders.len() < FEW {
+            return self.are_below(holders, label);
+        }
+        match self.labels.all_below(id, label) {
+            Some(below) => below,
+            None => self.are_below(holders, label),
+        }
     }
 
     /// Whether a directory is not the root, and no directory holds it.
@@ -278,13 +298,29 @@ impl Tree {
         self.nodes.set_attr(id, attr);
     }
 
-    /// Gives an object another label. It takes no memory.
+    // Has the names of an object counted by the labels of its directories, where these are many and there is memory for it.
+    fn count_holders(&mut self, id: &Oid)
+        ensures { self.new ≡ self.old }
+    {
+        let holders = self.entries.holders(id);
+        if holders.len() < FEW || self.labels.is_counted(id) {
+            return;
+        }
+        if let Ok(counts) = count_labels(self.alloc, &self.nodes, holders) {
+            self.labels.count(id, counts);
+        }
+    }
+
+    /// Gives an object another label. It does not fail: where no memory is left, the object's names are not counted by the labels
+    /// of its directories.
     pub fn set_label(&mut self, id: &Oid, label: Label)
         requires { IsThere self.old.nodes.table.objects id.now }
         ensures label { IfObject self.old id.now (λ o. HasObject self.old id.now (record o { label = label }) self.new) }
         ensures entries { self.new.entries ≡ self.old.entries }
     {
+        clear_counts(&mut self.labels, &self.entries, id);
         self.nodes.set_label(id, label);
+        self.count_holders(id);
     }
 
     /// Empties a file. It takes no memory.
@@ -337,6 +373,7 @@ impl Tree {
         ensures err { OnErr result (self.new ≡ self.old) }
     {
         self.entries.insert(dir, name.copy()?, id)?;
+        count_name(&mut self.labels, &self.nodes, id, dir);
         Ok(())
     }
 
@@ -347,7 +384,10 @@ impl Tree {
         ensures err { OnErr result (self.new ≡ self.old) }
     {
         match self.entries.remove(dir, name) {
-            Some(_) => Ok(()),
+            Some(id) => {
+                uncount_name(&mut self.labels, &self.nodes, &id, dir);
+                Ok(())
+            }
             None => Err(Absent),
         }
     }
@@ -402,7 +442,11 @@ impl Tree {
         if from.is_same(&to) {
             return Ok(());
         }
+        let replaced = look_where_counted(&self.labels, &self.entries, &to);
         self.entries.relocate(&from, &to, &id)?;
+        uncount_found(&mut self.labels, &self.nodes, &replaced, to.dir);
+        count_name(&mut self.labels, &self.nodes, &id, to.dir);
+        uncount_name(&mut self.labels, &self.nodes, &id, from.dir);
         Ok(())
     }
 

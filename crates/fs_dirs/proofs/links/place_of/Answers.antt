@@ -1,15 +1,24 @@
-use Rattle.std.proofs.Common.{ap, sym, ◌∙◌, arith, get_or}
-use Rattle.std.proofs.lemmas.List.{get_or_default}
-use Rattle.kern_model.proofs.KeyLaws.{oid_cmp_exact}
-use Rattle.kern_model.proofs.MapLemmas.{same_key}
-use Rattle.fs_dirs.specs.declared.links.Holder.{Holder}
+use Rattle.std.proofs.Common.{rules}
+use Rattle.std.proofs.lemmas.List.Sorted.{answers_always}
+use Rattle.kern_model.specs.Keys.{oid_cmp}
+use Rattle.fs_dirs.specs.Entries.{dir_of}
+use Rattle.fs_dirs.proofs.SortedHolders.{absent, found, gap}
 use Rattle.fs_dirs.proofs.links.place_of.Goals as goal
 
-pub returns-then-is_same-clause-is : goal.returns-then-is_same-clause-is
-returns-then-is_same-clause-is c =
-    let holders = c.args.holders.now in
-    let dir = c.args.dir.now in
-    let place = c.loop-place.place in
-    let held = c.index-holders-place.result in
-    ap (λ (h : Holder). h.dir) (get_or_default holders place (record { dir = dir; further = 0 }) held (omega arith))
-    ∙ same_key oid_cmp_exact (get_or holders place held).dir dir (sym c.is_same.ensures ∙ c.if-is_same.true)
+pub returns-clause-is : goal.returns-clause-is
+unfolding oid_cmp
+returns-clause-is c =
+    let answers = c.binary_search_by_key.ensures in
+    found c.args.holders.now c.args.dir.now _ (answers.position dir_of (answers_always _ _ _ (λ f a r g called. search rules)))
+
+pub returns-clause-absent : goal.returns-clause-absent
+unfolding oid_cmp
+returns-clause-absent c =
+    let answers = c.binary_search_by_key.ensures in
+    absent c.args.holders.now c.args.dir.now _ (gap c.args.holders.now c.args.dir.now c.requires _ answers.bound (answers.position dir_of (answers_always _ _ _ (λ f a r g called. search rules))))
+
+pub returns-clause-gap : goal.returns-clause-gap
+unfolding oid_cmp
+returns-clause-gap c =
+    let answers = c.binary_search_by_key.ensures in
+    gap c.args.holders.now c.args.dir.now c.requires _ answers.bound (answers.position dir_of (answers_always _ _ _ (λ f a r g called. search rules)))

@@ -1,5 +1,7 @@
 use Rattle.std.specs.Prelude.{[], List, get_or}
 use Rattle.std.proofs.Common.{subst}
+use Rattle.kern_model.specs.declared.numbers.Oid.{Oid}
+use Rattle.kern_model.specs.Keys.{same_oid}
 use Rattle.fs_dirs.specs.declared.links.Holder.{Holder}
 use Rattle.fs_dirs.specs.Entries.{IsIn}
 use Rattle.fs_dirs.proofs.LentLists.{lent_absent, lent_found, lent_left}
@@ -7,7 +9,7 @@ use Rattle.fs_dirs.proofs.LinkLemmas.{less_at, never_absent}
 use Rattle.fs_dirs.proofs.links.LinkTable.take_name.Goals as goal
 
 pub unreachable-requires : goal.unreachable-requires
-unreachable-requires c = never_absent c.args.self.now c.args.id.now c.args.dir.now c.requires (lent_absent c.self.view_is c.args.id.now.label c.in_default.is c.get_mut.ensures.value)
+unreachable-requires c = never_absent c.args.self.now c.args.id.now (λ (d : Oid). same_oid d c.args.dir.now) c.requires (lent_absent c.self.view_is c.args.id.now.label c.in_default.is c.get_mut.ensures.value)
 
 pub take_out-requires : goal.take_out-requires
 take_out-requires c =

@@ -5,16 +5,16 @@ use Rattle.kern_model.specs.State.{last_drawn}
 use Rattle.kern_model.specs.declared.limits.TheConstants.{MAX_OBJECTS}
 use Rattle.fs_nodes.specs.Nodes.{NodeSlots, NodeTable, next_in, with_new}
 use Rattle.fs_nodes.specs.declared.nodes.NodeError.TheVariants as error
-use Rattle.fs_dirs.specs.Tree.{AreEntries, TreeView}
+use Rattle.fs_dirs.specs.Tree.{IsTree, TreeView}
 use Rattle.fs_dirs.proofs.Answering.{either_way}
-use Rattle.fs_dirs.proofs.TreeLemmas.{tree_with_new}
+use Rattle.fs_dirs.proofs.TreeLabelLemmas.{with_made}
 use Rattle.fs_dirs.proofs.tree.Tree.create.Goals as goal
 
 pub invariant_of-self : goal.invariant_of-self
 invariant_of-self c =
-    let kept = λ (table : NodeTable). AreEntries table c.self.inside.entries in
+    let kept = λ (table : NodeTable). IsTree table c.self.inside.entries c.self.inside.labels in
     either_way c.create.result
-    (λ e. subst kept (sym e) (tree_with_new c.self.inside.nodes.table c.self.inside.entries c.self.invariant c.args.label (object_with c.args.label c.args.attr c.args.body)))
+    (with_made c.self.invariant c.args.label (object_with c.args.label c.args.attr c.args.body))
     (λ e. subst kept (sym e) c.self.invariant)
     c.create.ensures.made c.create.ensures.err
 

@@ -4,7 +4,7 @@ use Rattle.kern_model.specs.Valid.{IsThere}
 use Rattle.fs_nodes.specs.Nodes.{with_object}
 use Rattle.std.specs.Prelude.{◌≡◌}
 use Rattle.fs_dirs.specs.Tree.{IfObject, TreeView}
-use Rattle.fs_dirs.proofs.TreeLemmas.{tree_set}
+use Rattle.fs_dirs.proofs.TreeLabelLemmas.{with_set}
 use Rattle.fs_dirs.proofs.tree.Tree.set_attr.Goals as goal
 
 pub set_attr-requires : goal.set_attr-requires
@@ -13,7 +13,7 @@ set_attr-requires c = subst (λ (t : TreeView). IsThere t.nodes.table.objects c.
 pub invariant_of-self : goal.invariant_of-self
 invariant_of-self c =
     let here = subst (λ (t : TreeView). IsThere t.nodes.table.objects c.args.id.now) (sym c.self.view_is) c.requires in
-    tree_set c.args.id.now (λ (o : Object). record o { attr = c.args.attr }) here.value c.self.invariant here.is refl (c.set_attr.ensures here.value here.is)
+    with_set c.self.invariant c.args.id.now (λ (o : Object). record o { attr = c.args.attr }) here.value here.is refl refl (c.set_attr.ensures here.value here.is)
 
 pub returns-clause-attr : goal.returns-clause-attr
 returns-clause-attr c =

@@ -3,7 +3,7 @@ use Rattle.std.specs.Prelude.{◌≡◌, []}
 use Rattle.kern_model.specs.declared.objects.Object.{Object}
 use Rattle.fs_nodes.specs.Nodes.{IsFile, with_object}
 use Rattle.fs_dirs.specs.Tree.{IfObject, TreeView}
-use Rattle.fs_dirs.proofs.TreeLemmas.{tree_set}
+use Rattle.fs_dirs.proofs.TreeLabelLemmas.{with_set}
 use Rattle.fs_dirs.proofs.tree.Tree.truncate.Goals as goal
 
 pub truncate-requires : goal.truncate-requires
@@ -12,7 +12,7 @@ truncate-requires c = subst (λ (t : TreeView). IsFile t.nodes.table.objects c.a
 pub invariant_of-self : goal.invariant_of-self
 invariant_of-self c =
     let here = subst (λ (t : TreeView). IsFile t.nodes.table.objects c.args.id.now) (sym c.self.view_is) c.requires in
-    tree_set c.args.id.now (λ (o : Object). record o { bytes = [] }) here.object c.self.invariant here.is refl (c.truncate.ensures here.object here.is)
+    with_set c.self.invariant c.args.id.now (λ (o : Object). record o { bytes = [] }) here.object here.is refl refl (c.truncate.ensures here.object here.is)
 
 pub returns-clause-bytes : goal.returns-clause-bytes
 returns-clause-bytes c =

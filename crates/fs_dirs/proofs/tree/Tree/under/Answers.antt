@@ -55,7 +55,7 @@ up-preserved c =
     let left : c.up.left ≡ suc (c.up.left - 1) = omega arith in
     record {
       is_dir = subst (λ (t : TreeView). IsDir t.nodes.table.objects c.in-Some.above) c.self.view_is
-          (holder_dir c.self.inside.nodes.table c.self.inside.entries c.self.invariant here c.in-Some.above (sym c.holder.ensures ∙ c.in-Some.is));
+          (holder_dir c.self.inside.nodes.table c.self.inside.entries c.self.invariant.are_entries here c.in-Some.above (sym c.holder.ensures ∙ c.in-Some.is));
       same = c.up.invariant.same ∙ under_holder s c.args.top.now c.up.left (c.up.left - 1) here (Some c.in-Some.above) left other held;
       other = λ _. c.up.invariant.other other;
       due = λ apart under. subst (λ (t : TreeView). IsUnderDue (entries_alone t.entries) c.up.below c.args.dir.now → IsUnderDue (entries_alone t.entries) c.step.new.self c.args.dir.now) c.self.view_is
@@ -64,5 +64,5 @@ up-preserved c =
 
 pub holder-requires : goal.holder-requires
 holder-requires c =
-    dir_single c.self.inside.nodes.table c.self.inside.entries c.self.invariant c.up.current
+    dir_single c.self.inside.nodes.table c.self.inside.entries c.self.invariant.are_entries c.up.current
     (subst (λ (t : TreeView). IsDir t.nodes.table.objects c.up.current) (sym c.self.view_is) c.up.invariant.is_dir)

@@ -5,9 +5,9 @@ use Rattle.kern_model.specs.declared.objects.Object.{Object}
 use Rattle.kern_model.specs.FileRows.{written_over}
 use Rattle.fs_nodes.specs.Nodes.{IsFile, NodeTable, with_object}
 use Rattle.fs_nodes.specs.declared.nodes.WriteError.TheVariants as error
-use Rattle.fs_dirs.specs.Tree.{AreEntries, IfObject, TreeView}
+use Rattle.fs_dirs.specs.Tree.{IfObject, IsTree, TreeView}
 use Rattle.fs_dirs.proofs.Answering.{either_way}
-use Rattle.fs_dirs.proofs.TreeLemmas.{tree_set}
+use Rattle.fs_dirs.proofs.TreeLabelLemmas.{with_set}
 use Rattle.fs_dirs.proofs.tree.Tree.write_at.Goals as goal
 
 pub write_at-requires : goal.write_at-requires
@@ -17,8 +17,8 @@ pub invariant_of-self : goal.invariant_of-self
 invariant_of-self c =
     let here = subst (λ (t : TreeView). IsFile t.nodes.table.objects c.args.id.now) (sym c.self.view_is) c.requires in
     either_way c.write_at.result
-    (tree_set c.args.id.now (λ (o : Object). record o { bytes = written_over o.bytes c.args.at c.args.bytes.now }) here.object c.self.invariant here.is refl)
-    (λ e. subst (λ (table : NodeTable). AreEntries table c.self.inside.entries) (sym e) c.self.invariant)
+    (with_set c.self.invariant c.args.id.now (λ (o : Object). record o { bytes = written_over o.bytes c.args.at c.args.bytes.now }) here.object here.is refl refl)
+    (λ e. subst (λ (table : NodeTable). IsTree table c.self.inside.entries c.self.inside.labels) (sym e) c.self.invariant)
     (c.write_at.ensures.written here.object here.is) c.write_at.ensures.err
 
 pub returns-clause-written : goal.returns-clause-written

@@ -4,7 +4,7 @@ use Rattle.std.specs.FinMap as map
 use Rattle.kern_model.specs.declared.objects.Object.{Object}
 use Rattle.fs_nodes.specs.Nodes.{IsStream, NodeSlots}
 use Rattle.fs_dirs.specs.Tree.{TreeView}
-use Rattle.fs_dirs.proofs.TreeLemmas.{tree_streamed}
+use Rattle.fs_dirs.proofs.TreeLabelLemmas.{with_streamed}
 use Rattle.fs_dirs.proofs.tree.TreeBuffers.drop_bytes.Goals as goal
 
 pub drop_bytes-requires : goal.drop_bytes-requires
@@ -14,7 +14,7 @@ pub invariant_of-self : goal.invariant_of-self
 invariant_of-self c =
     let here = subst (λ (n : NodeSlots). IsStream n.table.objects c.args.id.now) (ap (λ (t : TreeView). t.nodes) (sym c.self.view_is)) c.requires.stream in
     let o : Object = here.object in
-    tree_streamed c.self.inside.nodes.table c.drop_bytes.new.self.table c.self.inside.entries c.self.invariant c.args.id.now o (record o { bytes = [] }) here.is refl (c.drop_bytes.ensures.dropped o here.is) c.drop_bytes.ensures.rest
+    with_streamed c.self.invariant c.args.id.now o (record o { bytes = [] }) here.is refl refl (c.drop_bytes.ensures.dropped o here.is) c.drop_bytes.ensures.rest
 
 pub returns-clause-dropped : goal.returns-clause-dropped
 returns-clause-dropped c o is =

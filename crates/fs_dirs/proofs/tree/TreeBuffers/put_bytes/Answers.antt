@@ -5,7 +5,7 @@ use Rattle.kern_model.specs.declared.objects.Object.{Object}
 use Rattle.fs_nodes.specs.Nodes.{IsStream, NodeSlots}
 use Rattle.fs_dirs.specs.Tree.{TreeView}
 use Rattle.fs_dirs.proofs.Answering.{either_way}
-use Rattle.fs_dirs.proofs.TreeLemmas.{tree_same, tree_streamed}
+use Rattle.fs_dirs.proofs.TreeLabelLemmas.{with_same, with_streamed}
 use Rattle.fs_dirs.proofs.tree.TreeBuffers.put_bytes.Goals as goal
 
 pub put_bytes-requires-clause-stream : goal.put_bytes-requires-clause-stream
@@ -16,12 +16,11 @@ put_bytes-requires-clause-room c o is = c.requires.room o (ap (λ (t : TreeView)
 
 pub invariant_of-self : goal.invariant_of-self
 invariant_of-self c =
-    let table = c.self.inside.nodes.table in
     let here = subst (λ (n : NodeSlots). IsStream n.table.objects c.args.id.now) (ap (λ (t : TreeView). t.nodes) (sym c.self.view_is)) c.requires.stream in
     let o : Object = here.object in
     either_way c.put_bytes.result
-    (λ e. tree_streamed table c.put_bytes.new.self.table c.self.inside.entries c.self.invariant c.args.id.now o (record o { bytes = o.bytes ++ c.args.bytes.now }) here.is refl e c.put_bytes.ensures.rest)
-    (λ e. tree_same table c.put_bytes.new.self.table c.self.inside.entries c.self.invariant e c.put_bytes.ensures.rest)
+    (λ e. with_streamed c.self.invariant c.args.id.now o (record o { bytes = o.bytes ++ c.args.bytes.now }) here.is refl refl e c.put_bytes.ensures.rest)
+    (λ e. with_same c.self.invariant e c.put_bytes.ensures.rest)
     (c.put_bytes.ensures.put o here.is) c.put_bytes.ensures.err
 
 pub returns-clause-put : goal.returns-clause-put

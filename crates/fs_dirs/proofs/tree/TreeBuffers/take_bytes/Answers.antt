@@ -4,7 +4,7 @@ use Rattle.std.specs.FinMap as map
 use Rattle.kern_model.specs.declared.objects.Object.{Object}
 use Rattle.fs_nodes.specs.Nodes.{IsStream, NodeSlots}
 use Rattle.fs_dirs.specs.Tree.{TreeView}
-use Rattle.fs_dirs.proofs.TreeLemmas.{tree_streamed}
+use Rattle.fs_dirs.proofs.TreeLabelLemmas.{with_streamed}
 use Rattle.fs_dirs.proofs.tree.TreeBuffers.take_bytes.Goals as goal
 
 pub take_bytes-requires : goal.take_bytes-requires
@@ -14,7 +14,7 @@ pub invariant_of-self : goal.invariant_of-self
 invariant_of-self c =
     let here = subst (λ (n : NodeSlots). IsStream n.table.objects c.args.id.now) (ap (λ (t : TreeView). t.nodes) (sym c.self.view_is)) c.requires.stream in
     let o : Object = here.object in
-    tree_streamed c.self.inside.nodes.table c.take_bytes.new.self.table c.self.inside.entries c.self.invariant c.args.id.now o (record o { bytes = drop c.take_bytes.result o.bytes }) here.is refl (c.take_bytes.ensures.left o here.is) c.take_bytes.ensures.rest
+    with_streamed c.self.invariant c.args.id.now o (record o { bytes = drop c.take_bytes.result o.bytes }) here.is refl refl (c.take_bytes.ensures.left o here.is) c.take_bytes.ensures.rest
 
 pub returns-clause-count : goal.returns-clause-count
 returns-clause-count c o is = c.take_bytes.ensures.count o (ap (λ (t : TreeView). map.get t.nodes.table.objects c.args.id.now) c.self.view_is ∙ is)
