@@ -26,7 +26,7 @@ use Rattle.kern_model.specs.declared.world.WorldProc.{WorldProc}
 use Rattle.kern_model.specs.Maps.{get_or as or_default}
 use Rattle.kern_model.specs.Keys.{Spot, spot_cmp}
 use Rattle.kern_model.specs.State.{State, Process, Change, SetEntry, SetObject, SetProcess, DrawObject, DrawProcess, apply_changes, last_drawn, next_object, next_process, look, root}
-use Rattle.kern_model.specs.Boot.{object_of, process_of, entry_for, boot_object, boot_objects, boot_process, boot_processes, boot_recs_from}
+use Rattle.kern_model.specs.Boot.{object_of, process_of, entry_for, boot_object, boot_objects, boot_process, boot_processes, boot_recs_from, nothing, objects_loaded}
 use Rattle.kern_model.specs.Rules.{same_label}
 use Rattle.kern_model.specs.World.{IsWorld, IsWorldProc, procs_at}
 use Rattle.cap_bits.specs.CapSet.{is_within}
@@ -132,7 +132,7 @@ unfolding boot_object
 object_keeps s o = entry_keeps s _ root o.path.names (next_object s o.label)
 
 -- objects draw no number of a process
-pub objects_keep : (s : State) (os : List WorldObject) → (boot_objects s os).process_numbers ≡ s.process_numbers
+objects_keep : (s : State) (os : List WorldObject) → (boot_objects s os).process_numbers ≡ s.process_numbers
 objects_keep s [] = refl
 objects_keep s (o ∷ os) = objects_keep (boot_object s o) os ∙ object_keeps s o
 
@@ -197,11 +197,17 @@ within_all top [] h = tt
 within_all top (w ∷ ws) h = (h.0.within, within_all top ws h.1)
 
 -- the processes of a world can start, where nothing is drawn
-pub all_can : (w : World) → IsWorld w → CanStart map.empty w.procs
+all_can : (w : World) → IsWorld w → CanStart map.empty w.procs
 all_can w is = record { room = all_room MAX_PROCS (λ l. procs_at l w.procs) is.room.procs; within = within_all w.top w.procs is.procs }
 
+-- and where only its objects were made
+pub all_can_start : (w : World) → IsWorld w → (made : State) (ws : List WorldProc) → made ≡ objects_loaded w → ws ≡ w.procs → CanStart made.process_numbers ws
+all_can_start w is made ws loaded procs =
+    let none : made.process_numbers ≡ map.empty = ap (λ (s : State). s.process_numbers) loaded ∙ objects_keep (nothing w.bound w.top) w.objects in
+    subst (λ (m : FinMap label_cmp ℕ). CanStart m ws) (sym none) (subst (λ (xs : List WorldProc). CanStart map.empty xs) (sym procs) (all_can w is))
+
 -- ---- one more of a list
-rest_from : {X : Type 0} (xs : List X) (i : ℕ) (x : X) → i < length xs → x ≡ get_or xs i x → drop i xs ≡ x ∷ drop (i + 1) xs
+pub rest_from : {X : Type 0} (xs : List X) (i : ℕ) (x : X) → i < length xs → x ≡ get_or xs i x → drop i xs ≡ x ∷ drop (i + 1) xs
 rest_from xs i x h is = drop-cons xs i x h ∙ ap (λ y. y ∷ drop (suc i) xs) (sym is) ∙ ap (λ n. x ∷ drop n xs) (sym (add-one i))
 
 -- the first object of some has a number, where there is room for all
@@ -216,14 +222,6 @@ others_room s t o os booted room = subst (λ m. RoomForObjects m os) (sym (ap (�
 pub object_room : (s : State) (os : List WorldObject) (i : ℕ) (o : WorldObject) → i < length os → o ≡ get_or os i o → RoomForObjects s.object_numbers (drop i os) → last_drawn s.object_numbers o.label < MAX_OBJECTS
 object_room s os i o h is room = first_numbered s o (drop (i + 1) os) (subst (λ xs. RoomForObjects s.object_numbers xs) (rest_from os i o h is) room)
 
--- the first process that is left can start
-module _ (s : State) (ws : List WorldProc) (i : ℕ) (w : WorldProc) (h : i < length ws) (is : w ≡ get_or ws i w) (can : CanStart s.process_numbers (drop i ws)) where
-  pub can_first : CanStart s.process_numbers (w ∷ drop (i + 1) ws)
-  can_first = subst (CanStart s.process_numbers) (rest_from ws i w h is) can
-
-  pub process_room : last_drawn s.process_numbers w.label < MAX_PROCS
-  process_room = first_room (λ (x : WorldProc). x.label) MAX_PROCS s.process_numbers w (drop (i + 1) ws) can_first.room
-
 module _ (s t : State) (os : List WorldObject) (i : ℕ) (o : WorldObject) (h : i < length os) (is : o ≡ get_or os i o) (booted : t ≡ boot_object s o) where
   pub objects_step : boot_objects t (drop (i + 1) os) ≡ boot_objects s (drop i os)
   objects_step = ap (λ u. boot_objects u (drop (i + 1) os)) booted ∙ ap (boot_objects s) (sym (rest_from os i o h is))
@@ -231,19 +229,30 @@ module _ (s t : State) (os : List WorldObject) (i : ℕ) (o : WorldObject) (h : 
   pub objects_room : RoomForObjects s.object_numbers (drop i os) → RoomForObjects t.object_numbers (drop (i + 1) os)
   objects_room room = others_room s t o (drop (i + 1) os) booted (subst (λ xs. RoomForObjects s.object_numbers xs) (rest_from os i o h is) room)
 
-module _ (s t : State) (ws : List WorldProc) (i : ℕ) (w : WorldProc) (h : i < length ws) (is : w ≡ get_or ws i w) (booted : t ≡ boot_process s w) where
-  pub processes_step : boot_processes t (drop (i + 1) ws) ≡ boot_processes s (drop i ws)
-  processes_step = ap (λ u. boot_processes u (drop (i + 1) ws)) booted ∙ ap (boot_processes s) (sym (rest_from ws i w h is))
+-- the first process that is left can start
+module _ (s : State) (w : WorldProc) (rest all : List WorldProc) (is : all ≡ w ∷ rest) (can : CanStart s.process_numbers all) where
+  can_first : CanStart s.process_numbers (w ∷ rest)
+  can_first = subst (CanStart s.process_numbers) is can
+
+  pub process_room : last_drawn s.process_numbers w.label < MAX_PROCS
+  process_room = first_room (λ (x : WorldProc). x.label) MAX_PROCS s.process_numbers w rest can_first.room
+
+  pub process_within : is_within w.caps.e w.caps.p ≡ true
+  process_within = can_first.within.0
+
+module _ (s t : State) (w : WorldProc) (rest all : List WorldProc) (is : all ≡ w ∷ rest) (booted : t ≡ boot_process s w) where
+  pub processes_step : boot_processes t rest ≡ boot_processes s all
+  processes_step = ap (λ u. boot_processes u rest) booted ∙ ap (boot_processes s) (sym is)
 
   -- and so can the rest
-  pub processes_can : CanStart s.process_numbers (drop i ws) → CanStart t.process_numbers (drop (i + 1) ws)
+  pub processes_can : CanStart s.process_numbers all → CanStart t.process_numbers rest
   processes_can can =
-      let first = can_first s ws i w h is can in
-      subst (λ m. CanStart m (drop (i + 1) ws)) (sym (ap (λ u. u.process_numbers) booted ∙ process_draws s w))
-      (record { room = less_room (λ (x : WorldProc). x.label) MAX_PROCS s.process_numbers w (drop (i + 1) ws) first.room; within = first.within.1 })
+      let first = can_first s w rest all is can in
+      subst (λ m. CanStart m rest) (sym (ap (λ u. u.process_numbers) booted ∙ process_draws s w))
+      (record { room = less_room (λ (x : WorldProc). x.label) MAX_PROCS s.process_numbers w rest first.room; within = first.within.1 })
 
   -- its record, and then those of the rest
-  pub started_step : (who : Pid) → who ≡ next_process s w.label → (recs : List Rec) → (recs ++ rec.Boot who w.label w.caps ∷ []) ++ boot_recs_from t (drop (i + 1) ws) ≡ recs ++ boot_recs_from s (drop i ws)
-  started_step who number recs =
-      append_assoc recs (rec.Boot who w.label w.caps ∷ []) (boot_recs_from t (drop (i + 1) ws))
-      ∙ ap (λ xs. recs ++ xs) ((λ j. rec.Boot (number j) w.label w.caps ∷ boot_recs_from (booted j) (drop (i + 1) ws)) ∙ ap (boot_recs_from s) (sym (rest_from ws i w h is)))
+  pub started_step : (r : Rec) → r ≡ rec.Boot (next_process s w.label) w.label w.caps → (recs : List Rec) → (recs ++ r ∷ []) ++ boot_recs_from t rest ≡ recs ++ boot_recs_from s all
+  started_step r started recs =
+      append_assoc recs (r ∷ []) (boot_recs_from t rest)
+      ∙ ap (λ xs. recs ++ xs) ((λ j. started j ∷ boot_recs_from (booted j) rest) ∙ ap (boot_recs_from s) (sym is))

@@ -1,5 +1,5 @@
 -- What a step keeps.
-use Rattle.std.specs.Prelude.{◌≡◌, refl, true, false, List, [], Option, Some, None, Result, Ok, Err, IfOk, OnOk, IsSome, is_some}
+use Rattle.std.specs.Prelude.{◌≡◌, refl, true, false, [], Option, Some, None, Result, Ok, Err, IfOk, OnOk, IsSome, is_some}
 use Rattle.std.specs.Result.{is_err}
 use Rattle.std.specs.FinMap as map
 use Rattle.std.proofs.Common.{ap, sym, ◌∙◌, subst, arith}
@@ -12,9 +12,8 @@ use Rattle.kern_model.specs.declared.calls.CallName.{CallName}
 use Rattle.kern_model.specs.declared.numbers.Pid.{Pid}
 use Rattle.kern_model.specs.declared.records.Outcome as reported
 use Rattle.kern_model.specs.declared.world.World.{World}
-use Rattle.kern_model.specs.declared.world.WorldProc.{WorldProc}
 use Rattle.kern_model.specs.Arguments.{has_names, is_call}
-use Rattle.kern_model.specs.Boot.{boot_processes, objects_loaded}
+use Rattle.kern_model.specs.Boot.{objects_loaded}
 use Rattle.kern_model.specs.Drawing.{NumbersGoOn}
 use Rattle.kern_model.specs.Names.{name_of}
 use Rattle.kern_model.specs.Refusals.{IsNamed}
@@ -93,7 +92,3 @@ valid_objects_loaded w is = valid_boot (record w { procs = [] }) (record {
   procs = tt;
   room = record { objects = is.room.objects; procs = λ l. omega arith };
 })
-
--- is valid, by the parts that make it
-pub valid_started : (w : World) → IsWorld w → (made started : State) (ps : List WorldProc) → made ≡ objects_loaded w → ps ≡ w.procs → started ≡ boot_processes made ps → IsValid started
-valid_started w h made started ps loaded_is procs starts = subst IsValid (sym (starts ∙ (λ i. boot_processes (loaded_is i) (procs i)))) (valid_boot w h)

@@ -1,5 +1,5 @@
 // How the first state is made of a world.
-ghost use Rattle.std.specs.Prelude.{◌≡◌, ◌<◌, ◌++◌, ◌∷◌, [], true, IfOk, OnOk};
+ghost use Rattle.std.specs.Prelude.{◌≡◌, ◌<◌, true, IfOk, OnOk};
 ghost use Rattle.cap_bits.specs.CapSet.{is_within};
 ghost use Rattle.kern_model.specs.declared.limits.TheConstants.{MAX_PROCS};
 ghost use Rattle.kern_model.specs.declared.records.Rec.TheVariants as rec;
@@ -9,9 +9,9 @@ ghost use Rattle.kern_model.specs.World.{IsWorld};
 ghost use Rattle.kern_core.specs.Starts.{CanStart};
 
 use crate::from_world::creds_from;
-use crate::loading::Loading;
+use crate::loading::{Loading, give_back};
 use fs_dirs::root_directory;
-use kern_model::{NoMemory, Pid, ProcList, Rec, RecList, World, WorldProc};
+use kern_model::{NoMemory, ProcList, Rec, RecList, World, WorldProc};
 use proc_table::ProcError;
 use std::alloc::Global;
 use sys_lookup::Shared;
@@ -54,35 +54,47 @@ pub fn boot_processes(
     ensures state { OnOk result (shared.new ≡ boot_processes shared.old procs.now) }
     ensures recs { IfOk result (λ recs. recs ≡ boot_recs_from shared.old procs.now) }
 {
-    let mut recs = RecList::new(alloc);
+    let mut recs = RecList::with_capacity(alloc, procs.len())?;
     for process in procs {
-        let who = boot_process(shared, process)?;
-        note_start(&mut recs, who, process)?;
+        recs.push(boot_process(shared, process)?)?;
     }
     Ok(recs)
 }
 
-// Makes a process under the next number of its label, and returns the number.
-fn boot_process(shared: &mut Shared, process: &WorldProc) -> Result<Pid, NoMemory>
+/// Makes the processes of a world, in order, and returns a record for each. Their list gives back its memory as it empties.
+pub fn take_processes(
+    alloc: Global,
+    shared: &mut Shared,
+    procs: ProcList,
+) -> Result<RecList, NoMemory>
+    requires { CanStart shared.old.process_numbers procs }
+    ensures state { OnOk result (shared.new ≡ boot_processes shared.old procs) }
+    ensures recs { IfOk result (λ recs. recs ≡ boot_recs_from shared.old procs) }
+{
+    let mut left = procs.into_vec();
+    let mut recs = RecList::with_capacity(alloc, left.len())?;
+    left.reverse();
+    while let Some(process) = left.pop() {
+        recs.push(boot_process(shared, &process)?)?;
+        give_back(&mut left);
+    }
+    Ok(recs)
+}
+
+// Makes a process under the next number of its label, and returns the record of its start.
+fn boot_process(shared: &mut Shared, process: &WorldProc) -> Result<Rec, NoMemory>
     requires number { last_drawn shared.old.process_numbers process.now.label < MAX_PROCS }
     requires within { is_within process.now.caps.e process.now.caps.p ≡ true }
     ensures state { OnOk result (shared.new ≡ boot_process shared.old process.now) }
-    ensures number { IfOk result (λ who. who ≡ next_process shared.old process.now.label) }
+    ensures started { IfOk result (λ started. started ≡ rec.Boot (next_process shared.old process.now.label) process.now.label process.now.caps) }
 {
     match shared.procs.boot(creds_from(process)?, root_directory()) {
-        Ok(who) => Ok(who),
+        Ok(who) => Ok(Rec::Boot {
+            who,
+            label: process.label,
+            caps: process.caps,
+        }),
         Err(ProcError::Full) => unreachable!(),
         Err(ProcError::NoMemory(e)) => Err(e),
     }
-}
-
-// Adds the record of a process that starts with a world.
-fn note_start(recs: &mut RecList, who: Pid, process: &WorldProc) -> Result<(), NoMemory>
-    ensures { OnOk result (recs.new ≡ recs.old ++ rec.Boot who process.now.label process.now.caps ∷ []) }
-{
-    recs.push(Rec::Boot {
-        who,
-        label: process.label,
-        caps: process.caps,
-    })
 }

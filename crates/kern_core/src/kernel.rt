@@ -2,7 +2,7 @@
 ghost use Rattle.std.specs.Prelude.{◌≡◌, true, false, IfOk, IsErr, IsOk, OnErr, OnOk, option_map};
 ghost use Rattle.std.specs.FinMap as map;
 ghost use Rattle.kern_model.specs.Arguments.{is_call};
-ghost use Rattle.kern_model.specs.Boot.{boot, boot_processes, boot_recs, boot_recs_from};
+ghost use Rattle.kern_model.specs.Boot.{boot, boot_recs};
 ghost use Rattle.kern_model.specs.Drawing.{NumbersGoOn};
 ghost use Rattle.kern_model.specs.Refusals.{IsNamed};
 ghost use Rattle.kern_model.specs.State.{Process};
@@ -10,12 +10,11 @@ ghost use Rattle.kern_model.specs.Step.{IsPlayed};
 ghost use Rattle.kern_model.specs.Valid.{IsValid};
 ghost use Rattle.kern_model.specs.World.{IsWorld};
 ghost use Rattle.iso_laws.specs.Unnamed.{NeedsOnlyNamed};
-ghost use Rattle.kern_core.specs.Starts.{CanStart};
 
-use crate::boot::{boot_processes, load_objects, load_objects_from};
+use crate::boot::{boot_processes, load_objects, load_objects_from, take_processes};
 use crate::calls::play;
 use cap_bits::CapState;
-use kern_model::{Call, Calls, NoMemory, Outcome, Pid, PidList, RecList, World, WorldProc};
+use kern_model::{Call, Calls, NoMemory, Outcome, Pid, PidList, RecList, World};
 use lab_lattice::Label;
 use std::alloc::Global;
 use sys_lookup::{Caller, Shared};
@@ -52,8 +51,9 @@ impl Kernel {
         ensures valid { IfOk result (λ b. IsValid (state_of b.0)) }
         ensures sound { IfOk result (λ b. has_failed b.0 ≡ false) }
     {
-        let shared = load_objects(alloc, world)?;
-        Kernel::start(alloc, shared, world.procs.items())
+        let mut shared = load_objects(alloc, world)?;
+        let recs = boot_processes(alloc, &mut shared, world.procs.items())?;
+        Ok((Kernel::new(alloc, shared), recs))
     }
 
     /// The same as [`boot`](Kernel::boot). It uses the world up, so that the world and the kernel take less memory at a time.
@@ -65,32 +65,24 @@ impl Kernel {
         ensures valid { IfOk result (λ b. IsValid (state_of b.0)) }
         ensures sound { IfOk result (λ b. has_failed b.0 ≡ false) }
     {
-        let (shared, procs) = load_objects_from(alloc, world)?;
-        Kernel::start(alloc, shared, procs.items())
+        let (mut shared, procs) = load_objects_from(alloc, world)?;
+        let recs = take_processes(alloc, &mut shared, procs)?;
+        Ok((Kernel::new(alloc, shared), recs))
     }
 
-    // The kernel in this state with these processes besides, and a record for each.
+    // A kernel in a valid state.
     #[tactic(auto, unfolding(crate::specs::Kernel::state_of, crate::specs::Kernel::has_failed))]
-    fn start(
-        alloc: Global,
-        shared: Shared,
-        procs: &[WorldProc],
-    ) -> Result<(Kernel, RecList), NoMemory>
-        requires start { CanStart shared.process_numbers procs.now }
-        requires valid { IsValid (boot_processes shared procs.now) }
-        ensures state { IfOk result (λ b. state_of b.0 ≡ boot_processes shared procs.now) }
-        ensures recs { IfOk result (λ b. b.1 ≡ boot_recs_from shared procs.now) }
-        ensures valid { IfOk result (λ b. IsValid (state_of b.0)) }
-        ensures sound { IfOk result (λ b. has_failed b.0 ≡ false) }
+    fn new(alloc: Global, shared: Shared) -> Kernel
+        requires { IsValid shared }
+        ensures state { state_of result ≡ shared }
+        ensures valid { IsValid (state_of result) }
+        ensures sound { has_failed result ≡ false }
     {
-        let mut shared = shared;
-        let recs = boot_processes(alloc, &mut shared, procs)?;
-        let kernel = Kernel {
+        Kernel {
             alloc,
             shared,
             failed: false,
-        };
-        Ok((kernel, recs))
+        }
     }
 
     /// Plays one call of a process, and returns the reply and the records that it leaves. When memory runs out nothing is

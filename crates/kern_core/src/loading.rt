@@ -58,8 +58,8 @@ fn has_no(name: &Name, names: &[Name]) -> bool
     names.iter().all(|other| other != name)
 }
 
-// Gives back the memory of objects that are gone, once it is an eighth of the list.
-fn give_back(left: &mut Vec<WorldObject>)
+/// Gives back the memory of the items that are gone, once it is an eighth of the list.
+pub fn give_back<T: Drop>(left: &mut Vec<T>)
     ensures { left.new.items ≡ left.old.items }
 {
     if left.len() <= left.capacity() / 8 * 7 {

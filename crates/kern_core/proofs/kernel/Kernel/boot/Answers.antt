@@ -1,39 +1,20 @@
-use Rattle.std.proofs.Common.{◌≡◌, ◌∙◌, ap, refl, sym, subst, ℕ, List}
-use Rattle.std.specs.Prelude.{IfOk}
-use Rattle.std.specs.FinMap as map
-use Rattle.std.specs.FinMap.{FinMap}
-use Rattle.lab_lattice.specs.Label.{label_cmp}
-use Rattle.kern_model.specs.declared.records.Rec.{Rec}
-use Rattle.kern_model.specs.declared.world.WorldProc.{WorldProc}
-use Rattle.kern_model.specs.Boot.{boot_processes, nothing, boot_recs_from}
-use Rattle.kern_model.specs.State.{State}
-use Rattle.kern_core.specs.Starts.{CanStart}
-use Rattle.kern_core.specs.Kernel.{state_of}
-use Rattle.kern_core.proofs.BootLemmas.{all_can, objects_keep}
-use Rattle.kern_core.proofs.KernelLemmas.{valid_started}
+use Rattle.std.proofs.Common.{◌≡◌, ◌∙◌, subst, sym}
+use Rattle.kern_model.specs.Boot.{boot, boot_processes, boot_recs_from}
+use Rattle.kern_model.specs.Valid.{IsValid}
+use Rattle.iso_laws.proofs.Laws.{valid_boot}
+use Rattle.kern_core.proofs.BootLemmas.{all_can_start}
 use Rattle.kern_core.proofs.kernel.Kernel.boot.Goals as goal
 
-pub start-requires-clause-start : goal.start-requires-clause-start
-start-requires-clause-start c =
-    let w = c.args.world.now in
-    let none_drawn : c.in_ok-shared.shared.process_numbers ≡ map.empty =
-    ap (λ (s : State). s.process_numbers) c.in_ok-shared.ensures ∙ objects_keep (nothing w.bound w.top) w.objects in
-    subst (λ (m : FinMap label_cmp ℕ). CanStart m c.items.result.now) (sym none_drawn)
-    (subst (λ (ws : List WorldProc). CanStart map.empty ws) (sym (c.items.ensures)) (all_can w c.requires.world))
+pub boot_processes-requires : goal.boot_processes-requires
+boot_processes-requires c = all_can_start c.args.world.now c.requires.world c.in_ok-shared.shared c.items.result.now c.in_ok-shared.ensures c.items.ensures
 
-pub start-requires-clause-valid : goal.start-requires-clause-valid
-start-requires-clause-valid c =
-    let made = c.in_ok-shared.shared in
-    valid_started c.args.world.now c.requires.world made (boot_processes made c.items.result.now) c.items.result.now c.in_ok-shared.ensures (c.items.ensures) refl
+pub new-requires : goal.new-requires
+new-requires c =
+    let booted : c.boot_processes.new.shared ≡ boot c.args.world.now = c.in_ok-recs.ensures.state ∙ (λ i. boot_processes (c.in_ok-shared.ensures i) (c.items.ensures i)) in
+    subst IsValid (sym booted) (valid_boot c.args.world.now c.requires.world)
 
 pub returns-clause-state : goal.returns-clause-state
-returns-clause-state c =
-    let loaded_is = c.in_ok-shared.ensures in
-    let procs : c.items.result.now ≡ c.args.world.now.procs = c.items.ensures in
-    subst (λ (t : State). IfOk c.start.result (λ b. state_of b.0 ≡ t)) (λ i. boot_processes (loaded_is i) (procs i)) c.start.ensures.state
+returns-clause-state c = c.new.ensures.state ∙ c.in_ok-recs.ensures.state ∙ (λ i. boot_processes (c.in_ok-shared.ensures i) (c.items.ensures i))
 
 pub returns-clause-recs : goal.returns-clause-recs
-returns-clause-recs c =
-    let loaded_is = c.in_ok-shared.ensures in
-    let procs : c.items.result.now ≡ c.args.world.now.procs = c.items.ensures in
-    subst (λ (rs : List Rec). IfOk c.start.result (λ b. b.1 ≡ rs)) (λ i. boot_recs_from (loaded_is i) (procs i)) c.start.ensures.recs
+returns-clause-recs c = c.in_ok-recs.ensures.recs ∙ (λ i. boot_recs_from (c.in_ok-shared.ensures i) (c.items.ensures i))
