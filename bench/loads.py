@@ -5,8 +5,9 @@
 
 A load is a file FOLDER/NAME.in of at most 16 MiB, a world and its script; with --old it is of the old format of worlds. The kinds:
 `worlds` (400,000 files), `labels` (as many labels as objects and processes), `relabelled` (a file of 1,000 names that gets labels again
-and again), `spread` (the same with the names in 1,000 directories), `descending` (names made in descending order), `deep` (paths of 32 names), `copies` (forks of processes with 32
-descriptors and 16 groups), `descriptors`, `pipes`, `mixed` (calls of all sorts) and `crowd` (4,095 processes of each of four labels).
+and again), `spread` (the same with the names in 1,000 directories), `relinked` (these names, removed and made again), `descending`
+(names made in descending order), `deep` (paths of 32 names), `copies` (forks of processes with 32 descriptors and 16 groups),
+`descriptors`, `pipes`, `mixed` (calls of all sorts) and `crowd` (4,095 processes of each of four labels).
 """
 import argparse
 import pathlib
@@ -59,12 +60,24 @@ def relabelled():
     return world, links + pairs
 
 
-def spread():
-    """A file with a name in each of 1,000 directories that gets one label and the other, and is looked at in between."""
+def linked():
+    """A world of a file and 1,000 directories, and the calls that give the file a name in each of these."""
     dirs = [f"dir /d{n:04d} 0777 10 10 unc" for n in range(1_000)]
     links = [f"1@unc link /f /d{n:04d}/f" for n in range(1_000)]
-    turns = ["1@unc mac_set_file /f conf", "1@unc stat /f", "1@unc mac_set_file /f unc", "1@unc stat /f"] * 20_000
-    return head() + dirs + ['file /f 0644 10 10 unc ""', 'proc unc 10 10 - "all=ep"'], links + turns
+    return head() + dirs + ['file /f 0644 10 10 unc ""', 'proc unc 10 10 - "all=ep"'], links
+
+
+def spread():
+    """A file with a name in each of 1,000 directories that gets one label and the other, and is looked at in between."""
+    world, links = linked()
+    return world, links + ["1@unc mac_set_file /f conf", "1@unc stat /f", "1@unc mac_set_file /f unc", "1@unc stat /f"] * 20_000
+
+
+def relinked():
+    """The same file, which loses its name in one directory after the other and gets it again."""
+    world, links = linked()
+    order = random.Random(1).choices(range(1_000), k=150_000)
+    return world, links + [line for n in order for line in (f"1@unc unlink /d{n:04d}/f", f"1@unc link /f /d{n:04d}/f")]
 
 
 def descending():
@@ -119,7 +132,7 @@ def crowd():
     return head() + procs, [f"{n % 4_095 + 1}@{tags[n % 4]} getpid" for n in range(700_000)]
 
 
-KINDS = [worlds, labels, relabelled, spread, descending, deep, copies, descriptors, pipes, mixed, crowd]
+KINDS = [worlds, labels, relabelled, spread, relinked, descending, deep, copies, descriptors, pipes, mixed, crowd]
 
 
 def text_of(world, calls, is_old):
