@@ -12,3 +12,5 @@ pub use Rattle.iso_laws.proofs.OwnTrail.{own_trail}
 pub use Rattle.iso_laws.proofs.GoingOn.{refusals_are_named, drawn_step, numbers_step, numbers_run, gone_run}
 pub use Rattle.iso_laws.proofs.UnnamedLaw.{unnamed_capability}
 pub use Rattle.iso_laws.proofs.CapsStay.{caps_stay}
+pub use Rattle.kern_model.proofs.ItemLaws.{judge-items as rows_are_items}
+pub use Rattle.kern_model.proofs.ExecLaws.{old_exec as uniform_exec}

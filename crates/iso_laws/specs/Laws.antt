@@ -2,6 +2,9 @@
 use Rattle.std.specs.Prelude.{◌≡◌, ℕ, Bool, true, false, List, ◌++◌, Some, take}
 use Rattle.std.specs.List.{AllByRecursion, list_any}
 use Rattle.std.specs.FinMap as map
+use Rattle.cap_bits.specs.CapSet.{CapSet, meet_of}
+use Rattle.cap_bits.specs.FileCaps.{is_uniform}
+use Rattle.cap_bits.specs.declared.state.CapState.{CapState}
 use Rattle.lab_lattice.specs.Label.{Label, dominates}
 use Rattle.kern_model.specs.declared.numbers.Pid.{Pid}
 use Rattle.kern_model.specs.declared.calls.Call.{Call}
@@ -12,11 +15,14 @@ use Rattle.kern_model.specs.declared.world.ScriptItem.{ScriptItem}
 use Rattle.kern_model.specs.Arguments.{has_names, is_call, is_script}
 use Rattle.kern_model.specs.Boot.{boot}
 use Rattle.kern_model.specs.Drawing.{StayDrawn, NumbersGoOn, NothingComesBack}
+use Rattle.kern_model.specs.Exec.{exec_caps, exec_permitted}
 use Rattle.kern_model.specs.Isolation.{low, any_crosses, part, part_script, answers, alone, up_to, Kept}
+use Rattle.kern_model.specs.Items.{first_stop, items, visible_stop}
 use Rattle.kern_model.specs.Keys.{same_pid}
 use Rattle.kern_model.specs.Lineage.{caps_of, all_recs, OnlyDrops, GrowsByExec}
 use Rattle.kern_model.specs.Prefixes.{IsPrefix, Agree}
 use Rattle.kern_model.specs.Refusals.{IsNamed}
+use Rattle.kern_model.specs.Row.{Row, Subject, judge}
 use Rattle.kern_model.specs.Run.{run, state_after_run}
 use Rattle.kern_model.specs.State.{State, Process}
 use Rattle.kern_model.specs.Step.{step}
@@ -195,3 +201,13 @@ TopBoot = (w : World) → (boot w).top ≡ w.top
 -- and a step keeps it
 abbrev pub TopStep : Type 0
 TopStep = (s : State) (who : Pid) (c : Call) → (step s who c).state.top ≡ s.top
+
+-- ---- other readings of the definitions
+
+-- every row has the exercises and the stop of its items
+abbrev pub RowsAreItems : Type 0
+RowsAreItems = (a : Subject) (used : List Rec) (r : Row) → visible_stop (judge a used r) ≡ first_stop a used (items a r)
+
+-- by the exec formula, for each file with uniform sets, a process has effective what the file's effective set and the new permitted set share
+abbrev pub UniformExec : Type 0
+UniformExec = (old file : CapState) (bound : CapSet) → is_uniform file ≡ true → meet_of file.e (exec_permitted old file bound) ≡ (exec_caps old file bound).e

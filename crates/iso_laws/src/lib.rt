@@ -1,7 +1,9 @@
 //! The laws of isolation, on the definitions alone. A label is Low for `l` where `l` dominates it. What
 //! crosses `l` is an exercise of one of the five capabilities that override the rules on labels, between
-//! labels of which some are Low and some are not. Each law is stated in `specs/Laws.antt`. Those of isolation, and that a
-//! valid state stays valid, are for each call whose arguments are in their ranges. The others are for every call.
+//! labels of which some are Low and some are not. Each law is stated in `specs/Laws.antt`. Those of isolation, that a
+//! valid state stays valid, and that the labels in calls and in records are below the highest one (`labels_below`, and the
+//! clauses `call` and `recs` of `step_below`) are for each call whose arguments are in their ranges, or for each script that
+//! may be played. The others ask nothing of the call.
 #![tactic(auto)]
 
 ghost use Rattle.iso_laws.specs.Laws.{LowStepReply, LowStepRecords, LowStepState, OtherStep, KeptStep, ValidStep};
@@ -9,7 +11,7 @@ ghost use Rattle.iso_laws.specs.Laws.{KeptBoot, ValidBoot, IsolatedPrefix, Isola
 ghost use Rattle.iso_laws.specs.Laws.{LabelsBelow, CallerBelow, CallBelow, ReplyBelow, RecordsBelow};
 ghost use Rattle.iso_laws.specs.Laws.{CapsByRecords, CapsStay, DropsByRecords, GrowthByRecords, OwnTrail};
 ghost use Rattle.iso_laws.specs.Laws.{RefusalsAreNamed, DrawnStep, NumbersStep, NumbersRun, GoneRun};
-ghost use Rattle.iso_laws.specs.Laws.{TopBoot, TopStep, UnnamedCapability};
+ghost use Rattle.iso_laws.specs.Laws.{TopBoot, TopStep, UnnamedCapability, RowsAreItems, UniformExec};
 
 /// A step of a Low process that crosses nothing gives in the part the same reply, the same records, and the
 /// part of the new state. The same holds for a Low tag that names no living process.
@@ -61,13 +63,15 @@ pub fn two_worlds()
     ensures whole { TwoWorldsSame }
 {}
 
-/// Each label in a record of a run is below the highest label of its world, and so are those of the numbers in it.
+/// Each label in a record of a run is below the highest label of its world, and so are those of the numbers in it. For
+/// each script that may be played.
 pub fn labels_below()
     ensures { LabelsBelow }
 {}
 
 /// Each label in a step of a valid state is below its highest label: in the number of a caller that lives, in the call, in
-/// the reply and in the records. The modes in the reply lie within octal 6777.
+/// the reply and in the records. The modes in the reply lie within octal 6777. Of the labels in the call and in the records
+/// this is for calls whose arguments are in their ranges.
 pub fn step_below()
     ensures caller { CallerBelow }
     ensures call { CallBelow }
@@ -125,4 +129,16 @@ pub fn numbers_go_on()
 /// for `fork` from its child. Excepted is the reply of `cap_get_proc`, which reports the set. For every call.
 pub fn unnamed_capability()
     ensures { UnnamedCapability }
+{}
+
+/// A row of the call table and its list of items, of which the first that stops counts, have the same exercises, and the
+/// same check or refusal stops them. For every row.
+pub fn rows_are_items()
+    ensures { RowsAreItems }
+{}
+
+/// Where a file has uniform sets, the exec formula makes effective what the effective set of the file and the new permitted
+/// set share.
+pub fn uniform_exec()
+    ensures { UniformExec }
 {}
