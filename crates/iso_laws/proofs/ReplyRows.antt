@@ -1,15 +1,12 @@
 -- The row of each call: the labels in its answers are below top, and the modes in them are modes.
 use Rattle.std.specs.Prelude.{◌≡◌, ⊤, ℕ, ◌+◌, ◌==◌, ◌&&◌, length, Bool, true, false, List, [], ◌∷◌, Option, Some, None, refl, cond, unwrap_or}
 use Rattle.std.specs.List.{AllByRecursion}
-use Rattle.std.specs.Option.{option_map}
-use Rattle.std.proofs.Common.{sym, subst, ap}
+use Rattle.std.proofs.Common.{sym, subst}
 use Rattle.std.proofs.lemmas.Bool.{and_parts, leb-true}
 use Rattle.std.specs.FinMap as map
 use Rattle.fs_path.specs.Name.{Name}
 use Rattle.fs_path.specs.Path.{PathValue}
 use Rattle.lab_lattice.specs.Label.{Label, dominates}
-use Rattle.lab_lattice.proofs.Labels.{dominates_itself}
-use Rattle.kern_model.specs.declared.calls.Answer.{Answer}
 use Rattle.kern_model.specs.declared.calls.Answer.TheVariants as answer
 use Rattle.kern_model.specs.declared.calls.Call.{Call}
 use Rattle.kern_model.specs.declared.calls.Call.TheVariants as call
@@ -25,19 +22,19 @@ use Rattle.kern_model.specs.declared.numbers.Oid.{Oid}
 use Rattle.kern_model.specs.declared.numbers.Pid.{Pid}
 use Rattle.kern_model.specs.declared.objects.Object.{Object}
 use Rattle.kern_model.specs.declared.records.Rec.{Rec}
-use Rattle.kern_model.specs.Arguments.{is_call, is_number}
+use Rattle.kern_model.specs.Arguments.{is_call}
 use Rattle.kern_model.specs.AttrRows.{change_label, change_mode, change_owner, get_caps, get_label, give_label, set_caps, set_label, write_object_then}
 use Rattle.kern_model.specs.Descriptors.{Opened, open_description}
 use Rattle.kern_model.specs.FileRows.{keeps_attr, move_after, on_descriptor, open_object, or_not_open, place_in, put_in, put_in_file, put_in_stream, take_from, write_opened, writes_at}
 use Rattle.kern_model.specs.Keys.{same_oid}
 use Rattle.kern_model.specs.Kinds.{is_file, is_stream, is_mode, is_permission}
 use Rattle.kern_model.specs.OpenRows.{open_found, open_present, opens_present}
-use Rattle.kern_model.specs.ProcessRows.{await_child, execute, has_child, send, signal_row, take_ended}
+use Rattle.kern_model.specs.ProcessRows.{await_child, execute, has_child, send, signal_row}
 use Rattle.kern_model.specs.Row.{Row, Need, Soft, Refuse, Fail, Commit, Subject, End, Stopped, Refused, Done, judge, verdict_of, is_denied, exercises_after, need_if}
 use Rattle.kern_model.specs.Rules.{same_label}
 use Rattle.kern_model.specs.Stat.{stat_of, tell_stat}
 use Rattle.kern_model.specs.State.{State, Process, look, object_at, root, stub_object}
-use Rattle.kern_model.specs.Step.{reply_of, step, subject}
+use Rattle.kern_model.specs.Step.{reply_of, subject}
 use Rattle.kern_model.specs.Table.{row}
 use Rattle.kern_model.specs.TreeRows.{add_name, gives_way, go_to, if_moves, link_to, move_over, move_row, move_to, read_dir, report_stat, target_found}
 use Rattle.kern_model.specs.Valid.{IsValid, IsValidEnd, IsThere}
