@@ -5,5 +5,4 @@ pub mod Printable
 pub mod Unquoted
 pub mod JsonText
 pub mod KeyOrder
-pub mod ObjectTextLemmas
 pub mod LineageLemmas

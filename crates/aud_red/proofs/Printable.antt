@@ -43,7 +43,7 @@ use Rattle.aud_record.specs.Written.{switch_word}
 use Rattle.aud_record.specs.declared.event.Event.{Event}
 use Rattle.aud_record.specs.declared.event.Event.TheVariants as event
 use Rattle.aud_red.specs.Json.{is_printable, are_printable, ending_kind}
-use Rattle.aud_red.specs.ObjectText.{are_plain}
+use Rattle.aud_red.specs.Objects.{are_plain}
 
 -- ---- bytes
 
@@ -74,9 +74,6 @@ append_plain a b first second = list_all-append is_plain a b ∙ and_from _ _ fi
 
 pub plain_printable : (text : List ℕ) → are_plain text ≡ true → are_printable text ≡ true
 plain_printable text plain = all_weaker is_plain is_printable text plain_byte plain
-
-pub plain_utf8 : (text : List ℕ) → are_plain text ≡ true → IsUtf8 text
-plain_utf8 text plain = printable_utf8 text (plain_printable text plain)
 
 bare_text_plain : (w : List ℕ) → is_bare_text w ≡ true → are_plain w ≡ true
 bare_text_plain w bare = all_weaker is_bare is_plain w bare_byte (all_bare w bare)

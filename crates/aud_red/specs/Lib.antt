@@ -3,5 +3,4 @@ pub mod Select
 pub mod Json
 pub mod JsonValue
 pub mod Objects
-pub mod ObjectText
 pub mod Lineage

@@ -1,10 +1,12 @@
-// The members of a record as a value of `serde_json`.
-ghost use Rattle.std.specs.Prelude.{◌≡◌, IfOk, OnOk};
+// The members of a record as a value of `serde_json`, and its text.
+ghost use Rattle.std.specs.Prelude.{◌≡◌, true, Some, IfOk, OnOk};
+ghost use Rattle.serde_json.specs.Read.{read};
 ghost use Rattle.serde_json.specs.View.{members_view, view};
+ghost use Rattle.serde_json.specs.Written.{compact_text};
 ghost use Rattle.aud_record.specs.Written.{switch_word};
 ghost use Rattle.aud_red.specs.Json.{ending_kind, label_members, relabel_members, file_members, ending_members};
 ghost use Rattle.aud_red.specs.Json.{exec_members, denial_members, exercise_members, rest_members};
-ghost use Rattle.aud_red.specs.Json.{in_key_order, rec_members};
+ghost use Rattle.aud_red.specs.Json.{in_key_order, rec_members, are_printable, json_line};
 ghost use Rattle.aud_red.specs.JsonValue.{members_of, json_of};
 ghost use Rattle.aud_red.specs.Objects.{with_members};
 
@@ -197,7 +199,23 @@ fn object_of(alloc: Global, policy: &Policy, rec: &ReadRec) -> Result<ObjectWrit
 /// A record as a value of JSON: an object, whose members stand in the order of their keys.
 #[tactic(auto, unfolding(crate::specs::JsonValue::json_of))]
 pub fn rec_json(alloc: Global, policy: &Policy, rec: &ReadRec) -> Result<Value, NoMemory>
-    ensures { IfOk result (λ value. view value ≡ json_of policy.now rec.now) }
+    ensures value { IfOk result (λ value. view value ≡ json_of policy.now rec.now) }
+    // The text that `serde_json` has for it.
+    ensures text { IfOk result (λ value. compact_text (view value) ≡ json_line policy.now rec.now) }
+    // It has no line feed, and no byte that is not ASCII.
+    ensures printable { IfOk result (λ value. are_printable (compact_text (view value)) ≡ true) }
 {
     Ok(object_of(alloc, policy, rec)?.into_value())
+}
+
+/// The JSON text of a record, on one line and without a line feed, as `serde_json` writes it.
+pub fn json_text(alloc: Global, policy: &Policy, rec: &ReadRec) -> Result<Vec<u8>, NoMemory>
+    ensures text { IfOk result (λ text. text.items ≡ json_line policy.now rec.now) }
+    // It has no line feed, and no byte that is not ASCII.
+    ensures printable { IfOk result (λ text. are_printable text.items ≡ true) }
+    // It is JSON, and says the record.
+    ensures reads_back { IfOk result (λ text. read text.items ≡ Some (json_of policy.now rec.now)) }
+{
+    let value = rec_json(alloc, policy, rec)?;
+    value.to_vec(alloc)
 }

@@ -1,7 +1,6 @@
 // The members of JSON objects.
 ghost use Rattle.std.specs.Prelude.{◌≡◌, [], ◌++◌, true, IfOk, OnOk};
 ghost use Rattle.std.specs.List.{flat_map};
-ghost use Rattle.std.specs.Str.{IsUtf8};
 ghost use Rattle.cap_clause.specs.Written.{caps_text};
 ghost use Rattle.fs_path.specs.Words.{item_text};
 ghost use Rattle.lab_text.specs.Text.{label_text};
@@ -10,9 +9,9 @@ ghost use Rattle.kern_model.specs.Names.{place_text};
 ghost use Rattle.line_text.specs.Words.{thing_text};
 ghost use Rattle.serde_json.specs.Data.{no_members, number, unsigned, object, string, put};
 ghost use Rattle.serde_json.specs.View.{members_view, view};
-ghost use Rattle.aud_red.specs.Json.{ending_value, new_label_value};
+ghost use Rattle.aud_red.specs.Json.{ending_value, new_label_value, are_printable};
 ghost use Rattle.aud_red.specs.JsonValue.{data_of};
-ghost use Rattle.aud_red.specs.ObjectText.{are_plain};
+ghost use Rattle.aud_red.specs.Objects.{are_plain, is_simple, are_simple};
 
 use crate::NoMemory;
 use cap_bits::CapState;
@@ -28,8 +27,8 @@ use std::marker::Model;
 // For how many bytes the text of a value has room from the start.
 const USUAL_TEXT: usize = 32;
 
-/// An object under construction, seen as its members in the order of their keys. After an error, which is always out of
-/// memory, it is of no use.
+/// An object under construction, seen as its members in the order of their keys. Its keys and texts are printable. After an
+/// error, which is always out of memory, it is of no use.
 pub struct ObjectWriter {
     alloc: Global,
     members: Map<String, Value>,
@@ -45,16 +44,19 @@ impl Drop for ObjectWriter {
 }
 
 impl Model for ObjectWriter {
-    ghost use Rattle.std.specs.Prelude.{List};
+    ghost use Rattle.std.specs.Prelude.{◌≡◌, true, List};
     ghost use Rattle.std.specs.Coded.{codes};
+    ghost use Rattle.serde_json.specs.View.{members_view};
     ghost use Rattle.serde_json.specs.contracts.value.Value as value;
-    ghost use Rattle.aud_red.specs.Objects.{Entry};
+    ghost use Rattle.aud_red.specs.Objects.{Entry, are_simple};
 
     ghost Value = { List Entry };
 
     ghost coded = { Prim.hlevel (codes, value.the_row.coded) };
 
     ghost view = { λ o. o.members.entries };
+
+    ghost invariant = { λ o. are_simple (members_view o.members.entries) ≡ true };
 }
 
 impl ObjectWriter {
@@ -67,14 +69,20 @@ impl ObjectWriter {
     }
 
     // Puts a value at a key.
+    #[tactic(auto, using(crate::proofs::JsonText::put_simple))]
     fn put(&mut self, key: &str, value: Value) -> Result<(), NoMemory>
+        requires key { are_printable key.now ≡ true }
+        requires value { is_simple (view value) ≡ true }
         ensures { OnOk result (members_view self.new ≡ put key.now (view value) (members_view self.old)) }
     {
-        serde_json::put(&mut self.members, self.alloc, key, value)
+        serde_json::put(&mut self.members, self.alloc, key, value)?;
+        Ok(())
     }
 
     /// Puts a number at a key.
+    #[tactic(auto, using(crate::proofs::JsonText::number_simple))]
     pub fn number(&mut self, key: &str, n: u64) -> Result<(), NoMemory>
+        requires { are_printable key.now ≡ true }
         ensures { OnOk result (members_view self.new ≡ put key.now (number (unsigned n)) (members_view self.old)) }
     {
         self.put(key, Value::from(n))
@@ -88,8 +96,10 @@ impl ObjectWriter {
     }
 
     // Puts a string at a key.
+    #[tactic(auto, using(crate::proofs::Printable::printable_utf8))]
     fn string(&mut self, key: &str, text: Vec<u8>) -> Result<(), NoMemory>
-        requires { IsUtf8 text.items }
+        requires key { are_printable key.now ≡ true }
+        requires text { are_printable text.items ≡ true }
         ensures { OnOk result (members_view self.new ≡ put key.now (string text.items) (members_view self.old)) }
     {
         let text = String::from_utf8(text).unwrap();
@@ -97,9 +107,10 @@ impl ObjectWriter {
     }
 
     // Puts a text at a key.
-    #[tactic(auto, using(crate::proofs::Printable::plain_utf8))]
+    #[tactic(auto, using(crate::proofs::Printable::plain_printable))]
     fn text(&mut self, key: &str, text: Vec<u8>) -> Result<(), NoMemory>
-        requires { are_plain text.items ≡ true }
+        requires key { are_printable key.now ≡ true }
+        requires text { are_plain text.items ≡ true }
         ensures { OnOk result (members_view self.new ≡ put key.now (string text.items) (members_view self.old)) }
     {
         self.string(key, text)
@@ -107,7 +118,8 @@ impl ObjectWriter {
 
     /// Puts a word at a key.
     pub fn word(&mut self, key: &str, word: &[u8]) -> Result<(), NoMemory>
-        requires { are_plain word.now ≡ true }
+        requires key { are_printable key.now ≡ true }
+        requires word { are_plain word.now ≡ true }
         ensures { OnOk result (members_view self.new ≡ put key.now (string word.now) (members_view self.old)) }
     {
         let text = Vec::from_slice(self.alloc, word)?;
@@ -117,6 +129,7 @@ impl ObjectWriter {
     /// Puts a label at a key.
     #[tactic(auto, using(crate::proofs::Printable::of_label))]
     pub fn label(&mut self, key: &str, policy: &Policy, label: &Label) -> Result<(), NoMemory>
+        requires { are_printable key.now ≡ true }
         ensures { OnOk result (members_view self.new
             ≡ put key.now (string (label_text policy.now label.now)) (members_view self.old)) }
     {
@@ -134,6 +147,7 @@ impl ObjectWriter {
         policy: &Policy,
         label: &Option<Label>,
     ) -> Result<(), NoMemory>
+        requires { are_printable key.now ≡ true }
         ensures { OnOk result (members_view self.new
             ≡ put key.now (data_of (new_label_value policy.now label.now)) (members_view self.old)) }
     {
@@ -153,7 +167,8 @@ impl ObjectWriter {
         n: u16,
         label: &Label,
     ) -> Result<(), NoMemory>
-        requires { are_plain mark.now ≡ true }
+        requires key { are_printable key.now ≡ true }
+        requires mark { are_plain mark.now ≡ true }
         ensures { OnOk result (members_view self.new
             ≡ put key.now (string (mark.now ++ numbered_text policy.now n label.now)) (members_view self.old)) }
     {
@@ -172,6 +187,7 @@ impl ObjectWriter {
         n: u16,
         label: &Label,
     ) -> Result<(), NoMemory>
+        requires { are_printable key.now ≡ true }
         ensures { OnOk result (members_view self.new
             ≡ put key.now (string (numbered_text policy.now n label.now)) (members_view self.old)) }
     {
@@ -180,6 +196,7 @@ impl ObjectWriter {
 
     /// Puts the object or process of a check at a key.
     pub fn thing(&mut self, key: &str, policy: &Policy, thing: &Thing) -> Result<(), NoMemory>
+        requires { are_printable key.now ≡ true }
         ensures { OnOk result (members_view self.new
             ≡ put key.now (string (thing_text policy.now thing.now)) (members_view self.old)) }
     {
@@ -192,6 +209,7 @@ impl ObjectWriter {
     /// Puts a capability state at a key.
     #[tactic(auto, using(crate::proofs::Printable::of_caps))]
     pub fn caps(&mut self, key: &str, caps: &CapState) -> Result<(), NoMemory>
+        requires { are_printable key.now ≡ true }
         ensures { OnOk result (members_view self.new ≡ put key.now (string (caps_text caps.now)) (members_view self.old)) }
     {
         let mut text = self.room()?;
@@ -202,6 +220,7 @@ impl ObjectWriter {
     /// Puts the place of a check at a key.
     #[tactic(auto, using(crate::proofs::Printable::of_place))]
     pub fn place(&mut self, key: &str, place: Place) -> Result<(), NoMemory>
+        requires { are_printable key.now ≡ true }
         ensures { OnOk result (members_view self.new ≡ put key.now (string (place_text place)) (members_view self.old)) }
     {
         let mut text = self.room()?;
@@ -212,6 +231,7 @@ impl ObjectWriter {
     /// Puts the exit status of a process or the name of a signal at a key.
     #[tactic(auto, using(crate::proofs::Printable::of_decimal))]
     pub fn ending_value(&mut self, key: &str, ending: Ending) -> Result<(), NoMemory>
+        requires { are_printable key.now ≡ true }
         ensures { OnOk result (members_view self.new ≡ put key.now (string (ending_value ending)) (members_view self.old)) }
     {
         match ending {
@@ -228,6 +248,7 @@ impl ObjectWriter {
     /// Puts bytes at a key as they stand between quotes.
     #[tactic(auto, using(crate::proofs::Printable::of_items))]
     pub fn bytes(&mut self, key: &str, bytes: &[u8]) -> Result<(), NoMemory>
+        requires { are_printable key.now ≡ true }
         ensures { OnOk result (members_view self.new
             ≡ put key.now (string (flat_map item_text bytes.now)) (members_view self.old)) }
     {
@@ -242,7 +263,8 @@ impl ObjectWriter {
 
     /// The object.
     pub fn into_value(self) -> Value
-        ensures { view result ≡ object (members_view self) }
+        ensures value { view result ≡ object (members_view self) }
+        ensures simple { are_simple (members_view self) ≡ true }
     {
         let ObjectWriter { alloc: _, members } = self;
         Value::Object(members)

@@ -5,7 +5,7 @@ use Rattle.fs_path.proofs.ValueRanges.{bytes_from}
 use Rattle.serde_json.specs.Data.{string, put}
 use Rattle.serde_json.specs.View.{members_view}
 use Rattle.aud_red.specs.Json.{are_printable}
-use Rattle.aud_red.proofs.Printable.{of_items, printable_utf8}
+use Rattle.aud_red.proofs.Printable.{of_items}
 use Rattle.aud_red.proofs.Unquoted.{quoted_long, unquoted_items}
 use Rattle.aud_red.proofs.object.ObjectWriter.bytes.Goals as goal
 
@@ -15,10 +15,10 @@ returns-in_default c =
     let long = quoted_long c.as_slice.result.now c.args.bytes.now is in
     absurd (omega (arith, long, c.in_default.len_below))
 
-pub string-requires : goal.string-requires
-string-requires c =
+pub string-requires-clause-text : goal.string-requires-clause-text
+string-requires-clause-text c =
     let is = c.as_slice.ensures.value ∙ c.in_ok-put_quoted.ensures.text ∙ ap (λ (t : List ℕ). t ++ quoted_text c.args.bytes.now) c.in_ok-text.ensures in
-    printable_utf8 _ (ap are_printable (c.in_ok-text-2.ensures.items ∙ unquoted_items c.as_slice.result.now c.args.bytes.now is) ∙ of_items c.args.bytes.now (bytes_from c.args.bytes.now (λ i. omega (arith, c.type_inv.bytes i))))
+    ap are_printable (c.in_ok-text-2.ensures.items ∙ unquoted_items c.as_slice.result.now c.args.bytes.now is) ∙ of_items c.args.bytes.now (bytes_from c.args.bytes.now (λ i. omega (arith, c.type_inv.bytes i)))
 
 pub returns : goal.returns
 returns c =
