@@ -16,8 +16,10 @@ use Rattle.kern_model.specs.Isolation.{low}
 use Rattle.kern_model.specs.State.{State, Process}
 use Rattle.kern_model.specs.Run.{CallRecord}
 use Rattle.line_text.specs.Reply.{reply_line}
+use Rattle.lab_engine.specs.declared.ending.CommandWord.{CommandWord}
+use Rattle.lab_engine.specs.declared.ending.CommandWord.TheVariants as command_word
 use Rattle.lab_engine.specs.declared.ending.InputEnd.{InputEnd}
-use Rattle.lab_engine.specs.declared.ending.InputEnd.TheVariants.{Whole, Refused, TooMuch}
+use Rattle.lab_engine.specs.declared.ending.InputEnd.TheVariants.{Whole, Refused, RefusedWord, TooMuch}
 use Rattle.lab_engine.specs.declared.ending.Part.{Part}
 use Rattle.lab_engine.specs.declared.ending.Part.TheVariants as part
 
@@ -55,14 +57,17 @@ ends_text viewer policy s = flat_map (λ who. cond (is_viewed viewer who) (end_t
 unfoldable pub part_text : Part → List ℕ
 part_text part.World = codes "world"
 part_text part.Script = codes "script"
-part_text part.View = codes "view"
 part_text part.Trail = codes "trail"
-part_text part.Select = codes "select"
 
--- the words of the last line: `done COUNT`, `refused LINE PART WORD` or `too long`
+unfoldable pub command_word_text : CommandWord → List ℕ
+command_word_text command_word.View = codes "view"
+command_word_text command_word.Select = codes "select"
+
+-- the words of the last line: `done COUNT`, `refused LINE PART WORD`, with line 0 for a word of the command line, or `too long`
 abbrev pub last_words : ℕ → InputEnd → List (List ℕ)
 last_words count Whole = codes "done" ∷ decimal count ∷ []
 last_words count (Refused n part why) = codes "refused" ∷ decimal n ∷ part_text part ∷ fault_word why ∷ []
+last_words count (RefusedWord word why) = codes "refused" ∷ codes "0" ∷ command_word_text word ∷ fault_word why ∷ []
 last_words count TooMuch = codes "too" ∷ codes "long" ∷ []
 
 -- the last line

@@ -4,16 +4,21 @@ use io_ends::ReadError;
 use kern_model::NoMemory;
 use line_text::LineFault;
 
-/// A part of an input.
+/// A part of an input, which has lines.
 #[derive(Clone, Copy, Debug, PartialEq, Eq)]
 pub enum Part {
     World,
     Script,
-    /// The label of `view`, which stands on no line of the input.
-    View,
     /// A trail, which is the input of `select` and of `lineage`.
     Trail,
-    /// The word of `select` that says which records are picked, which stands on no line of the input.
+}
+
+/// A word of the command line that is judged by the input.
+#[derive(Clone, Copy, Debug, PartialEq, Eq)]
+pub enum CommandWord {
+    /// The label of `view`.
+    View,
+    /// The word of `select` that says which records are picked.
     Select,
 }
 
@@ -24,6 +29,8 @@ pub enum InputEnd {
     Whole,
     /// This line was refused. Lines are numbered from 1.
     Refused(u64, Part, LineFault),
+    /// This word was refused, which stands on no line of the input.
+    RefusedWord(CommandWord, LineFault),
     /// It goes on past the limit, and no line before that was refused.
     TooMuch,
 }

@@ -19,7 +19,7 @@ mod upgrading;
 
 pub use checking::check_script;
 pub use counting::count_script;
-pub use ending::{Fault, InputEnd, Part};
+pub use ending::{CommandWord, Fault, InputEnd, Part};
 pub use generated::Generated;
 pub use least::{Needed, least_script};
 pub use opening::{Opened, OpenedWorld, open_input};

@@ -1,9 +1,9 @@
 // The lines of the output other than replies.
 ghost use Rattle.std.specs.Prelude.{◌≡◌, ◌++◌, IfOk, OnOk};
 ghost use Rattle.fs_path.specs.Words.{line_text};
-ghost use Rattle.lab_engine.specs.Texts.{life_text, part_text, last_text, last_words};
+ghost use Rattle.lab_engine.specs.Texts.{life_text, command_word_text, part_text, last_text, last_words};
 
-use crate::{InputEnd, Part};
+use crate::{CommandWord, InputEnd, Part};
 use cap_bits::CapState;
 use kern_model::{NoMemory, Pid};
 use lab_lattice::Label;
@@ -27,9 +27,20 @@ impl Part {
         match self {
             Part::World => b"world",
             Part::Script => b"script",
-            Part::View => b"view",
             Part::Trail => b"trail",
-            Part::Select => b"select",
+        }
+    }
+}
+
+impl CommandWord {
+    /// Its word in a last line.
+    #[tactic(auto, unfolding(crate::specs::Texts::command_word_text))]
+    pub fn word(self) -> &'static [u8]
+        ensures { result.now ≡ command_word_text self }
+    {
+        match self {
+            CommandWord::View => b"view",
+            CommandWord::Select => b"select",
         }
     }
 }
@@ -66,6 +77,11 @@ fn put_last(line: &mut LineWriter, count: u64, ending: InputEnd) -> Result<(), N
             line.bytes(b"refused ")?;
             line.digits(number)?;
             line.word(part.word())?;
+            line.word(why.word())
+        }
+        InputEnd::RefusedWord(word, why) => {
+            line.bytes(b"refused 0")?;
+            line.word(word.word())?;
             line.word(why.word())
         }
         InputEnd::TooMuch => line.bytes(b"too long"),

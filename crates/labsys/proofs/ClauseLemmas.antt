@@ -13,7 +13,7 @@ use Rattle.iso_laws.proofs.Laws.{drops_by_records, growth_by_records}
 use Rattle.labsys.specs.declared.command.Command.{Command}
 use Rattle.labsys.specs.declared.command.Command.TheVariants.{Play, Sched, Check, Gen, Drill, View, Upgrade, Least, Select, Lineage}
 use Rattle.lab_engine.specs.declared.ending.InputEnd.{InputEnd}
-use Rattle.lab_engine.specs.declared.ending.InputEnd.TheVariants.{Whole, Refused as IsRefused, TooMuch}
+use Rattle.lab_engine.specs.declared.ending.InputEnd.TheVariants.{Whole, Refused as IsRefused, RefusedWord, TooMuch}
 use Rattle.lab_engine.specs.declared.ending.Fault.{Fault}
 use Rattle.lab_engine.specs.declared.ending.Fault.TheVariants.{Read, Write, Trail, NoMemory as Memory}
 use Rattle.labsys.specs.declared.status.Status.{Status}
@@ -93,6 +93,7 @@ whole_gives NoMemory P Q f p = tt
 on_whole : (r : Result InputEnd Fault) (P : Status → Type 0) → ((e : InputEnd) → r ≡ Ok e → P (ends_with e)) → OnWhole (status_of r) (P (status_of r))
 on_whole (Ok Whole) P f = f Whole refl
 on_whole (Ok (IsRefused n part why)) P f = f (IsRefused n part why) refl
+on_whole (Ok (RefusedWord word why)) P f = f (RefusedWord word why) refl
 on_whole (Ok TooMuch) P f = f TooMuch refl
 on_whole (Err Read) P f = tt
 on_whole (Err Write) P f = tt
@@ -124,6 +125,7 @@ counts_by : (r : Result InputEnd Fault) (order : List Sent) (e e' : Ends) → Wr
 unfolding counted_by
 counts_by (Ok Whole) order e e' w = w.no_fault
 counts_by (Ok (IsRefused n part why)) order e e' w = w.no_fault
+counts_by (Ok (RefusedWord word why)) order e e' w = w.no_fault
 counts_by (Ok TooMuch) order e e' w = w.no_fault
 counts_by (Err Read) order e e' w = w.one_fault
 counts_by (Err Write) order e e' w = w.one_fault
@@ -178,6 +180,7 @@ all_calls (Some a) m = (replies_alone (session_of a m), records_alone (session_o
 only_read : (r : Result InputEnd Fault) → status_of r ≡ ReadFault → r ≡ Err Read
 only_read (Ok Whole) is = absurd (cc)
 only_read (Ok (IsRefused n part why)) is = absurd (cc)
+only_read (Ok (RefusedWord word why)) is = absurd (cc)
 only_read (Ok TooMuch) is = absurd (cc)
 only_read (Err Read) is = refl
 only_read (Err Write) is = absurd (cc)
@@ -187,6 +190,7 @@ only_read (Err Memory) is = absurd (cc)
 only_trail : (r : Result InputEnd Fault) → status_of r ≡ TrailFault → r ≡ Err Trail
 only_trail (Ok Whole) is = absurd (cc)
 only_trail (Ok (IsRefused n part why)) is = absurd (cc)
+only_trail (Ok (RefusedWord word why)) is = absurd (cc)
 only_trail (Ok TooMuch) is = absurd (cc)
 only_trail (Err Read) is = absurd (cc)
 only_trail (Err Write) is = absurd (cc)
@@ -196,6 +200,7 @@ only_trail (Err Memory) is = absurd (cc)
 pub only_done : (r : Result InputEnd Fault) → status_of r ≡ Done → r ≡ Ok Whole
 only_done (Ok Whole) is = refl
 only_done (Ok (IsRefused n part why)) is = absurd (cc)
+only_done (Ok (RefusedWord word why)) is = absurd (cc)
 only_done (Ok TooMuch) is = absurd (cc)
 only_done (Err Read) is = absurd (cc)
 only_done (Err Write) is = absurd (cc)
@@ -455,6 +460,7 @@ as_upgrade c r l l' entry exit is x = subst (λ (k : Command). CommandDid k r l 
 pub ends_whole : (e : InputEnd) → Done ≡ ends_with e → e ≡ Whole
 ends_whole Whole is = refl
 ends_whole (IsRefused n part why) is = absurd (cc)
+ends_whole (RefusedWord word why) is = absurd (cc)
 ends_whole TooMuch is = absurd (cc)
 
 -- what holds where a run succeeded holds of one that is done

@@ -15,9 +15,9 @@ use Rattle.lab_text.specs.Policy.{PolicyNames}
 use Rattle.line_text.specs.declared.fault.LineFault.TheVariants as line_fault
 use Rattle.lab_engine.specs.declared.ending.Fault.{Fault}
 use Rattle.lab_engine.specs.declared.ending.Fault.TheVariants.{NoMemory}
+use Rattle.lab_engine.specs.declared.ending.CommandWord.TheVariants as command_word
 use Rattle.lab_engine.specs.declared.ending.InputEnd.{InputEnd}
-use Rattle.lab_engine.specs.declared.ending.InputEnd.TheVariants.{Refused, Whole}
-use Rattle.lab_engine.specs.declared.ending.Part.TheVariants as part
+use Rattle.lab_engine.specs.declared.ending.InputEnd.TheVariants.{RefusedWord, Whole}
 use Rattle.lab_engine.specs.declared.playing.Played.{Played}
 use Rattle.lab_engine.specs.declared.reporting.Report.{Report}
 use Rattle.lab_engine.specs.declared.reporting.Report.TheVariants.{Below, Crossed}
@@ -181,7 +181,7 @@ view_named found l is parsed same r a lines left left' before after x = subst (�
 
 -- the refusal of a word that is no label of the world
 abbrev no_label : InputEnd
-no_label = Refused 0 part.View line_fault.BadLabel
+no_label = RefusedWord command_word.View line_fault.BadLabel
 
 refused_ending : (r : Result InputEnd Fault) → IfOk r (λ e. e ≡ no_label) → (left : Option (List ℕ)) → IfOk r (λ e. EndsAs e no_label left)
 refused_ending (Ok e) is left = record { same = is; to_the_end = λ whole. let no : no_label ≡ Whole = sym is ∙ whole in absurd (cc) }

@@ -4,7 +4,7 @@ use Rattle.std.specs.Fmt.{decimal}
 use Rattle.fs_path.specs.Words.{line_text}
 use Rattle.kern_model.specs.declared.world.World.{World}
 use Rattle.lab_engine.specs.declared.ending.InputEnd.{InputEnd}
-use Rattle.lab_engine.specs.declared.ending.InputEnd.TheVariants.{Whole, Refused, TooMuch}
+use Rattle.lab_engine.specs.declared.ending.InputEnd.TheVariants.{Whole, Refused, RefusedWord, TooMuch}
 use Rattle.lab_engine.specs.Input.{Accepted, Script, Input}
 use Rattle.lab_engine.specs.Order.{Sent, to_out}
 use Rattle.lab_engine.specs.Texts.{last_text}
@@ -17,6 +17,7 @@ ok_text objects procs calls = line_text (codes "ok" ∷ decimal objects ∷ deci
 abbrev pub checked_text : World → ℕ → InputEnd → List ℕ
 checked_text w calls Whole = ok_text (length w.objects) (length w.procs) calls
 checked_text w calls (Refused n part why) = last_text 0 (Refused n part why)
+checked_text w calls (RefusedWord word why) = last_text 0 (RefusedWord word why)
 checked_text w calls TooMuch = last_text 0 TooMuch
 
 -- what is written of an input by its world and its script; without a world it is the last line alone

@@ -13,7 +13,7 @@ use Rattle.kern_model.specs.Lineage.{caps_of, OnlyDrops, GrowsByExec}
 use Rattle.kern_model.specs.Isolation.{part, part_script, answers, alone, up_to}
 use Rattle.kern_model.specs.Prefixes.{IsPrefix, Agree}
 use Rattle.lab_engine.specs.declared.ending.InputEnd.{InputEnd}
-use Rattle.lab_engine.specs.declared.ending.InputEnd.TheVariants.{Whole, Refused as IsRefused, TooMuch}
+use Rattle.lab_engine.specs.declared.ending.InputEnd.TheVariants.{Whole, Refused as IsRefused, RefusedWord, TooMuch}
 use Rattle.lab_engine.specs.declared.ending.Fault.{Fault}
 use Rattle.lab_engine.specs.declared.ending.Fault.TheVariants.{Read, Write, Trail, NoMemory as Memory}
 use Rattle.labsys.specs.declared.command.Command.{Command}
@@ -91,6 +91,7 @@ pub record TakesAtMost (most : ℕ) (left now : Option (List ℕ)) : Type 0 wher
 abbrev pub status_of : Result InputEnd Fault → Status
 status_of (Ok Whole) = Done
 status_of (Ok (IsRefused n part why)) = Refused
+status_of (Ok (RefusedWord word why)) = Refused
 status_of (Ok TooMuch) = TooLong
 status_of (Err Read) = ReadFault
 status_of (Err Write) = WriteFault

@@ -13,7 +13,7 @@ use Rattle.aud_red.specs.declared.trail.Trail.{Trail}
 use Rattle.labsys.specs.declared.command.Command.{Command}
 use Rattle.labsys.specs.declared.command.Command.TheVariants.{Play, Sched, Check, Gen, Drill, View, Upgrade, Least, Select, Lineage}
 use Rattle.lab_engine.specs.declared.ending.InputEnd.{InputEnd}
-use Rattle.lab_engine.specs.declared.ending.InputEnd.TheVariants.{Whole, Refused as IsRefused, TooMuch}
+use Rattle.lab_engine.specs.declared.ending.InputEnd.TheVariants.{Whole, Refused as IsRefused, RefusedWord, TooMuch}
 use Rattle.labsys.specs.Checking.{order_of_check}
 use Rattle.labsys.specs.Drilling.{drilled_text}
 use Rattle.labsys.specs.Least.{order_of_least}
@@ -82,6 +82,7 @@ FitsCommand Lineage = Unit {0}
 abbrev pub ends_with : InputEnd → Status
 ends_with Whole = Done
 ends_with (IsRefused n part why) = Refused
+ends_with (RefusedWord word why) = Refused
 ends_with TooMuch = TooLong
 
 -- what is due: the bytes in order, each with its sink, and the status where all of them are written

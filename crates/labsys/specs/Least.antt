@@ -17,7 +17,7 @@ use Rattle.world_text.specs.CanBeRead.{HasShortLines}
 use Rattle.world_text.specs.Reading.{Accepted as AcceptedWorld, read_text}
 use Rattle.world_text.specs.Written.{text_of_world}
 use Rattle.lab_engine.specs.declared.ending.InputEnd.{InputEnd}
-use Rattle.lab_engine.specs.declared.ending.InputEnd.TheVariants.{Whole, Refused, TooMuch}
+use Rattle.lab_engine.specs.declared.ending.InputEnd.TheVariants.{Whole, Refused, RefusedWord, TooMuch}
 use Rattle.lab_engine.specs.Input.{Accepted, Script, Input, input_of, script}
 use Rattle.lab_engine.specs.Least.{named_by}
 use Rattle.lab_engine.specs.Order.{Sent, to_out}
@@ -44,6 +44,7 @@ least_text a needed = unneeded_text (unneeded a.world needed) ++ text_of_world (
 abbrev pub needs_text : Accepted → CapSet → InputEnd → List ℕ
 needs_text a needed Whole = least_text a needed
 needs_text a needed (Refused n part why) = last_text 0 (Refused n part why)
+needs_text a needed (RefusedWord word why) = last_text 0 (RefusedWord word why)
 needs_text a needed TooMuch = last_text 0 TooMuch
 
 -- the capabilities that exercises name in the run of a script on a world

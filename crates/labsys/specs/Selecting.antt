@@ -10,9 +10,9 @@ use Rattle.aud_red.specs.declared.select.SelectError.TheVariants as error
 use Rattle.aud_red.specs.declared.trail.Trail.{Trail}
 use Rattle.aud_red.specs.Json.{json_line}
 use Rattle.aud_red.specs.Select.{parse_select, picks}
+use Rattle.lab_engine.specs.declared.ending.CommandWord.TheVariants as command_word
 use Rattle.lab_engine.specs.declared.ending.InputEnd.{InputEnd}
-use Rattle.lab_engine.specs.declared.ending.InputEnd.TheVariants.{Whole, Refused}
-use Rattle.lab_engine.specs.declared.ending.Part.TheVariants as part
+use Rattle.lab_engine.specs.declared.ending.InputEnd.TheVariants.{Whole, RefusedWord}
 use Rattle.lab_engine.specs.Texts.{last_text}
 
 -- ---- a selection
@@ -33,8 +33,8 @@ selected_text select t = flat_map (selected_line t.policy select) t.recs ++ last
 
 -- how an input ends where the word denotes no selection
 abbrev pub ending_of_select : SelectError → InputEnd
-ending_of_select error.Syntax = Refused 0 part.Select fault.Syntax
-ending_of_select error.UnknownName = Refused 0 part.Select fault.UnknownName
+ending_of_select error.Syntax = RefusedWord command_word.Select fault.Syntax
+ending_of_select error.UnknownName = RefusedWord command_word.Select fault.UnknownName
 
 -- how an input ends by what the word denotes
 abbrev pub ending_of_selection : Result Select SelectError → InputEnd

@@ -47,7 +47,9 @@ fn report_check<K: Sink>(
             let text = ok_line(alloc, world, checked.count)?;
             answer(out, &text)
         }
-        InputEnd::Refused(..) | InputEnd::TooMuch => report_last(alloc, 0, checked.ending, out),
+        InputEnd::Refused(..) | InputEnd::RefusedWord(..) | InputEnd::TooMuch => {
+            report_last(alloc, 0, checked.ending, out)
+        }
     }
 }
 

@@ -67,7 +67,9 @@ fn report_least<K: Sink>(
             let text = least_text(alloc, read, needed.caps)?;
             answer(out, &text)
         }
-        InputEnd::Refused(..) | InputEnd::TooMuch => report_last(alloc, 0, needed.ending, out),
+        InputEnd::Refused(..) | InputEnd::RefusedWord(..) | InputEnd::TooMuch => {
+            report_last(alloc, 0, needed.ending, out)
+        }
     }
 }
 

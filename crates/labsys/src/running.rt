@@ -22,7 +22,7 @@ fn status_of(played: Result<InputEnd, Fault>) -> Status
 {
     match played {
         Ok(InputEnd::Whole) => Status::Done,
-        Ok(InputEnd::Refused(..)) => Status::Refused,
+        Ok(InputEnd::Refused(..) | InputEnd::RefusedWord(..)) => Status::Refused,
         Ok(InputEnd::TooMuch) => Status::TooLong,
         Err(Fault::Read) => Status::ReadFault,
         Err(Fault::Write) => Status::WriteFault,

@@ -13,7 +13,7 @@ use crate::{Argument, Command};
 use aud_record::ReadRec;
 use aud_red::{NoMemory, Select, SelectError, Trail, json_text};
 use io_ends::{Sink, Source};
-use lab_engine::{Fault, InputEnd, Part, answer, report_last};
+use lab_engine::{CommandWord, Fault, InputEnd, answer, report_last};
 use lab_text::Policy;
 use line_text::LineFault;
 use std::alloc::Global;
@@ -84,7 +84,7 @@ fn ending_of_select(error: SelectError) -> InputEnd
         SelectError::Syntax => LineFault::Syntax,
         SelectError::UnknownName => LineFault::UnknownName,
     };
-    InputEnd::Refused(0, Part::Select, why)
+    InputEnd::RefusedWord(CommandWord::Select, why)
 }
 
 // Writes what a word selects of a trail.

@@ -18,7 +18,8 @@ use crate::{Argument, Command};
 use io_ends::{Sink, Source, SureSink};
 use kern_core::Kernel;
 use lab_engine::{
-    Fault, InputEnd, Opened, OpenedWorld, Part, Played, Report, Texts, open_input, report_last,
+    CommandWord, Fault, InputEnd, Opened, OpenedWorld, Played, Report, Texts, open_input,
+    report_last,
 };
 use lab_lattice::Label;
 use lab_text::{Policy, mac_from_text};
@@ -36,7 +37,9 @@ pub fn report_unless_whole<K: Sink>(
 {
     match ending {
         InputEnd::Whole => Ok(()),
-        InputEnd::Refused(..) | InputEnd::TooMuch => report_last(alloc, 0, ending, out),
+        InputEnd::Refused(..) | InputEnd::RefusedWord(..) | InputEnd::TooMuch => {
+            report_last(alloc, 0, ending, out)
+        }
     }
 }
 
@@ -121,7 +124,7 @@ pub fn view<S: Source, K: Sink>(
     match open_input(alloc, Format::Two, source)? {
         Opened::World(opened) => {
             let Some(label) = label_named(&opened.read.policy, &word) else {
-                let ending = InputEnd::Refused(0, Part::View, LineFault::BadLabel);
+                let ending = InputEnd::RefusedWord(CommandWord::View, LineFault::BadLabel);
                 return end_without_world(alloc, ending, out);
             };
             view_world(alloc, label, opened, source, out)

@@ -9,7 +9,7 @@ use Rattle.script_text.specs.Reading.{Reading}
 use Rattle.script_text.specs.Step.{parse_step}
 use Rattle.script_text.proofs.StepLaws.{step_played}
 use Rattle.lab_engine.specs.declared.ending.InputEnd.{InputEnd}
-use Rattle.lab_engine.specs.declared.ending.InputEnd.TheVariants.{Whole, Refused, TooMuch}
+use Rattle.lab_engine.specs.declared.ending.InputEnd.TheVariants.{Whole, Refused, RefusedWord, TooMuch}
 use Rattle.lab_engine.specs.declared.ending.Part.TheVariants as part
 use Rattle.lab_engine.specs.Input.{last_piece}
 use Rattle.sched_engine.specs.declared.schedule.Expecting.{Expecting}
@@ -28,6 +28,7 @@ module _ (policy : PolicyNames) (s : Schedule) where
   at_end_plays : (due : Expecting) (n : ℕ) (ending : InputEnd) → MayGoOn (top_of policy) due → at_end due n ending ≡ Ok s → MayBePlayed (top_of policy) s
   at_end_plays due n Whole may is = whole_plays (top_of policy) due may s (was_there (whole due) (Refused n part.Script fault.Syntax) s is)
   at_end_plays due n (Refused m p why) may is = absurd (cc)
+  at_end_plays due n (RefusedWord word why) may is = absurd (cc)
   at_end_plays due n TooMuch may is = absurd (cc)
 
   after_line_plays : (line : List ℕ) (due : Expecting) (said : Reading StepLine) → parse_step policy line ≡ said → MayGoOn (top_of policy) due
@@ -58,6 +59,7 @@ module _ (policy : PolicyNames) (ending : InputEnd) (all : ending ≡ Whole) whe
   at_end_not_whole : (due : Expecting) (n : ℕ) (e : InputEnd) → at_end due n e ≡ Err ending → ⊥
   at_end_not_whole due n Whole is = end_not_whole (whole due) n is
   at_end_not_whole due n (Refused m p why) is = let same : Refused m p why ≡ ending = cc in absurd (cc)
+  at_end_not_whole due n (RefusedWord word why) is = let same : RefusedWord word why ≡ ending = cc in absurd (cc)
   at_end_not_whole due n TooMuch is = let same : TooMuch ≡ ending = cc in absurd (cc)
 
   goes_on_not_whole : (r : Result Expecting LineFault) (n : ℕ) (rest : Expecting → Result Schedule InputEnd) → ((after : Expecting) → rest after ≡ Err ending → ⊥) → go_on r n rest ≡ Err ending → ⊥

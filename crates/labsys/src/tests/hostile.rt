@@ -160,7 +160,7 @@ fn ends_alike(alloc: Global, text: &[u8], left: &Left) -> Result<bool, NoMemory>
     let (calls, ending) = input_end(alloc, text)?;
     let status = match ending {
         InputEnd::Whole => Status::Done,
-        InputEnd::Refused(..) => Status::Refused,
+        InputEnd::Refused(..) | InputEnd::RefusedWord(..) => Status::Refused,
         InputEnd::TooMuch => Status::TooLong,
     };
     let mut last = MemSink::new(alloc, LAST_LINE, Vec::new(alloc))?;
