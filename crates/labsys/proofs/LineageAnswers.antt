@@ -22,6 +22,8 @@ use Rattle.labsys.specs.declared.command.Command.TheVariants.{Lineage}
 use Rattle.labsys.specs.declared.status.Status.{Status}
 use Rattle.labsys.specs.declared.status.Status.TheVariants.{Done}
 use Rattle.labsys.specs.Clauses.{OnWhole, WhereReported, if_used, reports, reports_used, status_of}
+use Rattle.labsys.specs.declared.trails.ReadTrail.{ReadTrail}
+use Rattle.labsys.specs.declared.trails.ReadTrail.TheVariants as read_is
 use Rattle.labsys.specs.Commands.{due, ends_with, reads_source}
 use Rattle.labsys.specs.LineageText.{SaysLineage, SaysNo, SaysYes, ending_of_lineage, lineage_text, line_for, text_of_lineage}
 use Rattle.labsys.specs.Playing.{CommandDid}
@@ -32,16 +34,16 @@ use Rattle.labsys.proofs.TrailLemmas.{not_whole}
 
 -- ---- a trail
 
-read_by : (r : Result Trail TrailError) (t : Trail) → trail_by r ≡ Ok t → r ≡ Ok t
+read_by : (r : Result Trail TrailError) (t : Trail) → trail_by r ≡ read_is.Trail t → r ≡ Ok t
 read_by (Ok u) t is = cc
 read_by (Err e) t is = absurd (cc)
 
 -- bytes that are a trail are read as it
-trail_parsed : (text : List ℕ) (t : Trail) → trail_in text ≡ Ok t → parse_trail text ≡ Ok t
+trail_parsed : (text : List ℕ) (t : Trail) → trail_in text ≡ read_is.Trail t → parse_trail text ≡ Ok t
 unfolding trail_in
 trail_parsed text t is = by_test (nat_lt MAX_INPUT (length text)) is
   where
-    by_test : (b : Bool) → cond b (Err TooMuch) (trail_by (parse_trail text)) ≡ Ok t → parse_trail text ≡ Ok t
+    by_test : (b : Bool) → cond b (read_is.Ended TooMuch) (trail_by (parse_trail text)) ≡ read_is.Trail t → parse_trail text ≡ Ok t
     by_test true e = absurd (cc)
     by_test false e = read_by (parse_trail text) t e
 
@@ -67,13 +69,13 @@ module _ (t : Trail) where
 
 -- ---- a run
 
-says_lineage : (text out : List ℕ) (found : Result Trail InputEnd) → trail_in text ≡ found → Done ≡ ends_with (ending_of_lineage found) → out ≡ text_of_lineage found → SaysLineage text out
-says_lineage text out (Ok t) is done writes = record {
+says_lineage : (text out : List ℕ) (found : ReadTrail) → trail_in text ≡ found → Done ≡ ends_with (ending_of_lineage found) → out ≡ text_of_lineage found → SaysLineage text out
+says_lineage text out (read_is.Trail t) is done writes = record {
   trail = t;
   text_is = trail_is text t (trail_parsed text t is);
   says = subst (λ (z : List ℕ). SaysYes t z ⊎ SaysNo t z) (sym writes) (says_either t (lineage_of t.bound (recs_of t)) refl);
 }
-says_lineage text out (Err ending) is done writes = absurd (not_whole text ending is (ends_whole ending done))
+says_lineage text out (read_is.Ended ending) is done writes = absurd (not_whole text ending is (ends_whole ending done))
 
 pub is_lineage : (o : Option Command) (c : Command) → o ≡ Some c → o ≡ Some Lineage → c ≡ Lineage
 is_lineage o c is lineage = let same : Some c ≡ Some Lineage = sym is ∙ lineage in cc

@@ -1,6 +1,6 @@
 -- Inputs of programs: what the bytes of one are, and that its programs may be played.
 use Rattle.std.proofs.Common.{◌≡◌, ℕ, Bool, List, refl, sym, ap, subst}
-use Rattle.std.specs.Prelude.{None, Some, Result, Ok, Err, true}
+use Rattle.std.specs.Prelude.{None, Some, true}
 use Rattle.io_ends.specs.LinesState.{LinesState}
 use Rattle.kern_model.specs.Boot.{boot}
 use Rattle.kern_model.specs.World.{IsWorld}
@@ -11,6 +11,8 @@ use Rattle.lab_engine.specs.declared.ending.InputEnd.{InputEnd}
 use Rattle.lab_engine.specs.declared.ending.InputEnd.TheVariants.{Whole}
 use Rattle.lab_engine.specs.Input.{Accepted, Begun, HasWorld, Input, NoWorld, begun_in, input_from, input_in, input_of, no_world}
 use Rattle.lab_engine.specs.Reading.{script_left}
+use Rattle.sched_engine.specs.declared.reading.ReadSchedule.{ReadSchedule}
+use Rattle.sched_engine.specs.declared.reading.ReadSchedule.TheVariants as read_is
 use Rattle.sched_engine.specs.declared.schedule.Expecting.TheVariants as at
 use Rattle.sched_engine.specs.declared.schedule.Schedule.{Schedule}
 use Rattle.sched_engine.specs.Reading.{schedule_at, schedule_from, schedule_left}
@@ -40,7 +42,7 @@ unfolding programs_of script_left schedule_left
 programs_left text w lines more is = ap programs_by is
 
 -- an input that ends without a schedule does not end whole
-pub left_not_whole : (policy : PolicyNames) (lines : LinesState) (more : List ℕ) (ending : InputEnd) → Err ending ≡ schedule_at policy lines more → ending ≡ Whole → ⊥
+pub left_not_whole : (policy : PolicyNames) (lines : LinesState) (more : List ℕ) (ending : InputEnd) → read_is.Ended ending ≡ schedule_at policy lines more → ending ≡ Whole → ⊥
 unfolding schedule_left
 left_not_whole policy lines more ending is all = schedule_not_whole policy ending all _ _ at.Slices _ (sym is)
 
@@ -61,9 +63,9 @@ unfolding input_in
 has_world text w over n lines is = ap (λ (b : Begun). (input_from b).accepted) is
 
 module _ (text : List ℕ) (a : Accepted) (s : Schedule) where
-  of_found : (w : Accepted) → (input_of text).accepted ≡ Some w → (over : Bool) (n : ℕ) (lines : List (List ℕ)) (r : Result Schedule InputEnd) → schedule_from over w.policy n at.Slices lines ≡ r → with_schedule w r ≡ HasSchedule a s → IsSchedulable a s
-  of_found w accepted over n lines (Err ending) found is = absurd (cc)
-  of_found w accepted over n lines (Ok x) found is =
+  of_found : (w : Accepted) → (input_of text).accepted ≡ Some w → (over : Bool) (n : ℕ) (lines : List (List ℕ)) (r : ReadSchedule) → schedule_from over w.policy n at.Slices lines ≡ r → with_schedule w r ≡ HasSchedule a s → IsSchedulable a s
+  of_found w accepted over n lines (read_is.Ended ending) found is = absurd (cc)
+  of_found w accepted over n lines (read_is.Schedule x) found is =
       let same_world : w ≡ a = cc in
       let same : x ≡ s = cc in
       let playable = accepted_input text w accepted in

@@ -36,8 +36,10 @@ use Rattle.lab_engine.specs.Session.{bytes_from, bytes_of, head_text, numbered_f
 use Rattle.lab_engine.specs.Texts.{ends_text, last_text}
 use Rattle.lab_engine.proofs.ReadableLemmas.{with_numbers}
 use Rattle.lab_engine.proofs.Sending.{goes_on, in_order, passes_on, prefix_after, prefix_longer, prefix_nothing, stops_longer, out_of_memory}
+use Rattle.sched_engine.specs.declared.reading.ReadSchedule.{ReadSchedule}
+use Rattle.sched_engine.specs.declared.reading.ReadSchedule.TheVariants as read_is
 use Rattle.sched_engine.specs.declared.schedule.Schedule.{Schedule}
-use Rattle.sched_engine.specs.Reading.{ReadsSchedule, schedule_at}
+use Rattle.sched_engine.specs.Reading.{IfSchedule, ReadsSchedule, schedule_at}
 use Rattle.sched_engine.specs.Reporting.{AreItemsReadable, items_sends}
 use Rattle.sched_progs.specs.Loop.{loop, loop_end}
 use Rattle.sched_progs.specs.Turns.{LoopItem}
@@ -152,7 +154,7 @@ module _ (a : Accepted) (lines lines' : LinesState) (left left' : Option (List �
     readable = λ b s same. inr (prefix_nothing _ n n' o t);
   }
 
-  module _ (still : (u v : ℕ) → counts n' u v ≡ counts n u v) (found : Result Schedule InputEnd) (read : ReadsSchedule (Ok found) a.policy lines lines' left left') (after : Ends) where
+  module _ (still : (u v : ℕ) → counts n' u v ≡ counts n u v) (found : ReadSchedule) (read : ReadsSchedule (Ok found) a.policy lines lines' left left') (after : Ends) where
     source_is : n' ≡ n
     source_is = ap (λ (c : Counts). c.source) (still 0 0)
 
@@ -163,33 +165,33 @@ module _ (a : Accepted) (lines lines' : LinesState) (left left' : Option (List �
         let bytes = read.taken ++ left_of left' in
         record {
           reads = reads_within lines lines' left left' read.taken read.takes;
-          writes = subst (λ (x : Result Schedule InputEnd). Writes r (order_of_programs (with_schedule a x)) (ends n o t) after) read.shows
+          writes = subst (λ (x : ReadSchedule). Writes r (order_of_programs (with_schedule a x)) (ends n o t) after) read.shows
               (subst (λ m. Writes r (order_of_programs (with_schedule a found)) (ends m o t) after) source_is writes);
-          ending = subst (λ (x : Result Schedule InputEnd). IfOk r (λ e. EndsAs e (ending_of_programs (with_schedule a x)) left')) read.shows ending;
-          readable = subst (λ (x : Result Schedule InputEnd). ProgramsReadable (with_schedule a x) (ends n o t) after) read.shows
+          ending = subst (λ (x : ReadSchedule). IfOk r (λ e. EndsAs e (ending_of_programs (with_schedule a x)) left')) read.shows ending;
+          readable = subst (λ (x : ReadSchedule). ProgramsReadable (with_schedule a x) (ends n o t) after) read.shows
               (subst (λ m. ProgramsReadable (with_schedule a found) (ends m o t) after) source_is readable);
         }
 
     -- a schedule, which was run
-    pub schedule_run : (s : Schedule) → found ≡ Ok s → Writes r (session_order (session_by a s)) (ends n' o t) after → IfOk r (λ e. e ≡ Whole) → RunReadable (session_by a s) (ends n' o t) after
+    pub schedule_run : (s : Schedule) → found ≡ read_is.Schedule s → Writes r (session_order (session_by a s)) (ends n' o t) after → IfOk r (λ e. e ≡ Whole) → RunReadable (session_by a s) (ends n' o t) after
         → RunsPrograms r a lines left left' (ends n o t) after
     schedule_run s is writes whole readable =
         let scheduled_readable : (b : Accepted) (q : Schedule) → HasSchedule a s ≡ HasSchedule b q → RunReadable (session_by b q) (ends n' o t) after =
         λ b q same. subst (λ (i : ProgramInput). ReadableBy i (ends n' o t) after) same readable in
-        let whole_read = subst (λ (x : Result Schedule InputEnd). IfOk x (λ _. IsAtEnd left')) is read.to_the_end in
+        let whole_read = subst (λ (x : ReadSchedule). IfSchedule x (λ _. IsAtEnd left')) is read.to_the_end in
         by_found
-        (subst (λ (x : Result Schedule InputEnd). Writes r (order_of_programs (with_schedule a x)) (ends n' o t) after) (sym is) writes)
-        (subst (λ (x : Result Schedule InputEnd). IfOk r (λ e. EndsAs e (ending_of_programs (with_schedule a x)) left')) (sym is) (IfOk-weaker r _ _ (λ e same. record { same = same; to_the_end = λ _. whole_read }) whole))
-        (subst (λ (x : Result Schedule InputEnd). ProgramsReadable (with_schedule a x) (ends n' o t) after) (sym is) scheduled_readable)
+        (subst (λ (x : ReadSchedule). Writes r (order_of_programs (with_schedule a x)) (ends n' o t) after) (sym is) writes)
+        (subst (λ (x : ReadSchedule). IfOk r (λ e. EndsAs e (ending_of_programs (with_schedule a x)) left')) (sym is) (IfOk-weaker r _ _ (λ e same. record { same = same; to_the_end = λ _. whole_read }) whole))
+        (subst (λ (x : ReadSchedule). ProgramsReadable (with_schedule a x) (ends n' o t) after) (sym is) scheduled_readable)
 
     -- none: the input ends without one
-    pub without_schedule : (ending : InputEnd) → found ≡ Err ending → Writes r (to_out (last_text 0 ending)) (ends n' o t) after → IfOk r (λ e. e ≡ ending) → RunsPrograms r a lines left left' (ends n o t) after
+    pub without_schedule : (ending : InputEnd) → found ≡ read_is.Ended ending → Writes r (to_out (last_text 0 ending)) (ends n' o t) after → IfOk r (λ e. e ≡ ending) → RunsPrograms r a lines left left' (ends n o t) after
     without_schedule ending is writes ended =
         let none : ending ≡ Whole → ⊥ = λ all. left_not_whole a.policy lines (read.taken ++ left_of left') ending (sym is ∙ read.shows) all in
         by_found
-        (subst (λ (x : Result Schedule InputEnd). Writes r (order_of_programs (with_schedule a x)) (ends n' o t) after) (sym is) writes)
-        (subst (λ (x : Result Schedule InputEnd). IfOk r (λ e. EndsAs e (ending_of_programs (with_schedule a x)) left')) (sym is) (IfOk-weaker r _ _ (λ e same. record { same = same; to_the_end = λ whole. absurd (none (sym same ∙ whole)) }) ended))
-        (subst (λ (x : Result Schedule InputEnd). ProgramsReadable (with_schedule a x) (ends n' o t) after) (sym is) (λ b q same. absurd (cc)))
+        (subst (λ (x : ReadSchedule). Writes r (order_of_programs (with_schedule a x)) (ends n' o t) after) (sym is) writes)
+        (subst (λ (x : ReadSchedule). IfOk r (λ e. EndsAs e (ending_of_programs (with_schedule a x)) left')) (sym is) (IfOk-weaker r _ _ (λ e same. record { same = same; to_the_end = λ whole. absurd (none (sym same ∙ whole)) }) ended))
+        (subst (λ (x : ReadSchedule). ProgramsReadable (with_schedule a x) (ends n' o t) after) (sym is) (λ b q same. absurd (cc)))
 
 -- ---- an input that was opened
 

@@ -40,14 +40,16 @@ use Rattle.lab_engine.proofs.ReadLemmas.{counts_failed}
 use Rattle.lab_engine.proofs.Sending.{in_order, passes_on, prefix_nothing}
 use Rattle.labsys.specs.declared.command.Command.{Command}
 use Rattle.labsys.specs.declared.command.Command.TheVariants.{Lineage, Play, Select}
+use Rattle.labsys.specs.declared.trails.ReadTrail.{ReadTrail}
+use Rattle.labsys.specs.declared.trails.ReadTrail.TheVariants as read_is
 use Rattle.labsys.specs.Commands.{Due, due, ends_with}
 use Rattle.labsys.specs.Playing.{CommandDid}
-use Rattle.labsys.specs.Trails.{ReadsTrail, ending_of_error, trail_by, trail_in}
+use Rattle.labsys.specs.Trails.{IfTrail, ReadsTrail, ending_of_error, trail_by, trail_in}
 use Rattle.labsys.proofs.PlayLemmas.{failed_ending}
 
 -- ---- bytes that are no trail
 
-not_whole_by : (r : Result Trail TrailError) (ending : InputEnd) → trail_by r ≡ Err ending → ending ≡ Whole → ⊥
+not_whole_by : (r : Result Trail TrailError) (ending : InputEnd) → trail_by r ≡ read_is.Ended ending → ending ≡ Whole → ⊥
 not_whole_by (Ok t) ending is whole = absurd (cc)
 not_whole_by (Err (error.Header n)) ending is whole = absurd (cc)
 not_whole_by (Err (error.Record n)) ending is whole = absurd (cc)
@@ -55,11 +57,11 @@ not_whole_by (Err (error.Unended n)) ending is whole = absurd (cc)
 not_whole_by (Err (error.NoMemory e)) ending is whole = absurd (cc)
 
 -- bytes that are no trail do not end as one that is whole
-pub not_whole : (text : List ℕ) (ending : InputEnd) → trail_in text ≡ Err ending → ending ≡ Whole → ⊥
+pub not_whole : (text : List ℕ) (ending : InputEnd) → trail_in text ≡ read_is.Ended ending → ending ≡ Whole → ⊥
 unfolding trail_in
 not_whole text ending is whole = by_test (nat_lt MAX_INPUT (length text)) is
   where
-    by_test : (b : Bool) → cond b (Err TooMuch) (trail_by (parse_trail text)) ≡ Err ending → ⊥
+    by_test : (b : Bool) → cond b (read_is.Ended TooMuch) (trail_by (parse_trail text)) ≡ read_is.Ended ending → ⊥
     by_test true e = absurd (cc)
     by_test false e = not_whole_by (parse_trail text) ending e whole
 
@@ -72,7 +74,7 @@ read_counts r read_error.NoMemory is n n' h o t = counts_failed r read_error.NoM
 
 module _ (w : WholeRead) (left left' : Option (List ℕ)) (reads : ReadsWhole (Ok w) MAX_INPUT left left') where
   -- it has more bytes than a trail may have
-  pub read_too_much : w.more ≡ true → ReadsTrail (Ok (Err TooMuch)) left left'
+  pub read_too_much : w.more ≡ true → ReadsTrail (Ok (read_is.Ended TooMuch)) left left'
   unfolding trail_in
   read_too_much more =
       let past : MAX_INPUT < length reads.got = ltb-true MAX_INPUT (length reads.got) (sym reads.shows.more ∙ more) in
@@ -82,12 +84,12 @@ module _ (w : WholeRead) (left left' : Option (List ℕ)) (reads : ReadsWhole (O
         taken = reads.got;
         took = reads.took;
         few = reads.few;
-        shows = ap (λ b. cond b (Err TooMuch) (trail_by (parse_trail text))) (sym longer);
+        shows = ap (λ b. cond b (read_is.Ended TooMuch) (trail_by (parse_trail text))) (sym longer);
         to_the_end = tt;
       }
 
   -- it was read to its end: the bytes are all that it had
-  module _ (less : w.more ≡ false) (found : Result Trail InputEnd) (is : trail_by (parse_trail w.bytes) ≡ found) where
+  module _ (less : w.more ≡ false) (found : ReadTrail) (is : trail_by (parse_trail w.bytes) ≡ found) where
     abbrev all : List ℕ
     all = reads.got ++ left_of left'
 
@@ -106,18 +108,18 @@ module _ (w : WholeRead) (left left' : Option (List ℕ)) (reads : ReadsWhole (O
       taken = reads.got;
       took = reads.took;
       few = reads.few;
-      shows = sym (ap (λ b. cond b (Err TooMuch) (trail_by (parse_trail all))) (ap (λ (x : List ℕ). nat_lt MAX_INPUT (length x)) none_left ∙ (sym reads.shows.more ∙ less)) ∙ (ap (λ (x : List ℕ). trail_by (parse_trail x)) (sym bytes_are) ∙ is));
+      shows = sym (ap (λ b. cond b (read_is.Ended TooMuch) (trail_by (parse_trail all))) (ap (λ (x : List ℕ). nat_lt MAX_INPUT (length x)) none_left ∙ (sym reads.shows.more ∙ less)) ∙ (ap (λ (x : List ℕ). trail_by (parse_trail x)) (sym bytes_are) ∙ is));
       to_the_end = at_end found;
     }
       where
-        at_end : (x : Result Trail InputEnd) → IfOk x (λ _. IsAtEnd left')
-        at_end (Ok t) = reads.shows.to_the_end less
-        at_end (Err e) = tt
+        at_end : (x : ReadTrail) → IfTrail x (λ _. IsAtEnd left')
+        at_end (read_is.Trail t) = reads.shows.to_the_end less
+        at_end (read_is.Ended e) = tt
 
 -- the fault of bytes that are no trail, where memory did not run out
-pub refused_by : (bytes : List ℕ) (e : TrailError) (ending : InputEnd) → MatchBool (is_no_memory e) ⊤ (parse_trail bytes ≡ Err e) → is_no_memory e ≡ false → ending ≡ ending_of_error e → trail_by (parse_trail bytes) ≡ Err ending
+pub refused_by : (bytes : List ℕ) (e : TrailError) (ending : InputEnd) → MatchBool (is_no_memory e) ⊤ (parse_trail bytes ≡ Err e) → is_no_memory e ≡ false → ending ≡ ending_of_error e → trail_by (parse_trail bytes) ≡ read_is.Ended ending
 refused_by bytes e ending cause counts is =
-    ap trail_by (subst (λ b. MatchBool b ⊤ (parse_trail bytes ≡ Err e)) counts cause) ∙ ap (λ (x : InputEnd). Err x) (sym is)
+    ap trail_by (subst (λ b. MatchBool b ⊤ (parse_trail bytes ≡ Err e)) counts cause) ∙ ap (λ (x : InputEnd). read_is.Ended x) (sym is)
 
 -- ---- how many records there are
 
@@ -144,15 +146,15 @@ text_long text t is =
     omega (arith, recs, same, length-append (header_text t.policy t.bound) (recs_text t.policy t.recs))
 
 -- a trail has no more records than its text may have bytes
-pub few_records : (text : List ℕ) (t : Trail) → trail_in text ≡ Ok t → length t.recs ≤ 2 ^ 24
+pub few_records : (text : List ℕ) (t : Trail) → trail_in text ≡ read_is.Trail t → length t.recs ≤ 2 ^ 24
 unfolding trail_in
 few_records text t is = by_test (nat_lt MAX_INPUT (length text)) refl is
   where
-    read_as : (r : Result Trail TrailError) → trail_by r ≡ Ok t → r ≡ Ok t
+    read_as : (r : Result Trail TrailError) → trail_by r ≡ read_is.Trail t → r ≡ Ok t
     read_as (Ok u) e = cc
     read_as (Err e) f = absurd (cc)
 
-    by_test : (b : Bool) → nat_lt MAX_INPUT (length text) ≡ b → cond b (Err TooMuch) (trail_by (parse_trail text)) ≡ Ok t → length t.recs ≤ 2 ^ 24
+    by_test : (b : Bool) → nat_lt MAX_INPUT (length text) ≡ b → cond b (read_is.Ended TooMuch) (trail_by (parse_trail text)) ≡ read_is.Trail t → length t.recs ≤ 2 ^ 24
     by_test true b e = absurd (cc)
     by_test false b e =
         let short : length text ≤ MAX_INPUT = ltb-false MAX_INPUT (length text) b in
@@ -201,7 +203,7 @@ module _ (c : Command) (other : c ≡ Play → ⊥) (r : Result InputEnd Fault) 
     by_line = λ play. absurd (other play);
   }
 
-  module _ (meaning : Result Trail InputEnd → Due) (means : (text : List ℕ) → due c text ≡ meaning (trail_in text)) (found : Result Trail InputEnd) (reads : ReadsTrail (Ok found) left left') (still : (u v : ℕ) → counts n' u v ≡ counts n u v) (o t : SinkView) (after : Ends) where
+  module _ (meaning : ReadTrail → Due) (means : (text : List ℕ) → due c text ≡ meaning (trail_in text)) (found : ReadTrail) (reads : ReadsTrail (Ok found) left left') (still : (u v : ℕ) → counts n' u v ≡ counts n u v) (o t : SinkView) (after : Ends) where
     -- what it means was written
     trail_did : Writes r (meaning found).order (ends n' o t) after → IfOk r (λ e. ends_with e ≡ (meaning found).status) → IfOk r (λ e. e ≡ Whole → IsAtEnd left') → CommandDid c r left left' (ends n o t) after
     trail_did writes status to_the_end =
@@ -219,13 +221,13 @@ module _ (c : Command) (other : c ≡ Play → ⊥) (r : Result InputEnd Fault) 
         }
 
     -- what it means of a trail
-    pub trail_read : (trail : Trail) → found ≡ Ok trail → Writes r (meaning (Ok trail)).order (ends n' o t) after → IfOk r (λ e. ends_with e ≡ (meaning (Ok trail)).status) → CommandDid c r left left' (ends n o t) after
+    pub trail_read : (trail : Trail) → found ≡ read_is.Trail trail → Writes r (meaning (read_is.Trail trail)).order (ends n' o t) after → IfOk r (λ e. ends_with e ≡ (meaning (read_is.Trail trail)).status) → CommandDid c r left left' (ends n o t) after
     trail_read trail is writes status =
         trail_did (subst (λ x. Writes r (meaning x).order (ends n' o t) after) (sym is) writes) (subst (λ x. IfOk r (λ e. ends_with e ≡ (meaning x).status)) (sym is) status)
-        (IfOk-weaker r _ _ (λ e s whole. subst (λ x. IfOk x (λ _. IsAtEnd left')) is reads.to_the_end) status)
+        (IfOk-weaker r _ _ (λ e s whole. subst (λ x. IfTrail x (λ _. IsAtEnd left')) is reads.to_the_end) status)
 
     -- what it means of bytes that are none
-    pub trail_ended : (ending : InputEnd) → found ≡ Err ending → Writes r (meaning (Err ending)).order (ends n' o t) after → IfOk r (λ e. e ≡ ending) → ends_with ending ≡ (meaning (Err ending)).status → CommandDid c r left left' (ends n o t) after
+    pub trail_ended : (ending : InputEnd) → found ≡ read_is.Ended ending → Writes r (meaning (read_is.Ended ending)).order (ends n' o t) after → IfOk r (λ e. e ≡ ending) → ends_with ending ≡ (meaning (read_is.Ended ending)).status → CommandDid c r left left' (ends n o t) after
     trail_ended ending is writes same status =
         trail_did (subst (λ x. Writes r (meaning x).order (ends n' o t) after) (sym is) writes)
         (IfOk-weaker r _ _ (λ e k. ap ends_with k ∙ (status ∙ ap (λ x. (meaning x).status) (sym is))) same)

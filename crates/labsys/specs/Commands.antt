@@ -1,5 +1,5 @@
 -- The commands: which words name one, and what each is to write of the bytes of a source.
-use Rattle.std.specs.Prelude.{ℕ, ◌≤◌, Bool, true, false, cond, List, [], ◌∷◌, Option, Some, None, Result, codes, string_bytes}
+use Rattle.std.specs.Prelude.{ℕ, ◌≤◌, Bool, true, false, cond, List, [], ◌∷◌, Option, Some, None, codes, string_bytes}
 use Rattle.std.specs.Option.{option_map}
 use Rattle.std.specs.declared.string.String.{String}
 use Rattle.std.specs.declared.alloc.Global.{Global}
@@ -25,6 +25,7 @@ use Rattle.labsys.specs.Upgrading.{order_of_upgrade}
 use Rattle.labsys.specs.Viewing.{ending_of_view, text_of_view}
 use Rattle.labsys.specs.declared.status.Status.{Status}
 use Rattle.labsys.specs.declared.status.Status.TheVariants.{Done, Refused, TooLong}
+use Rattle.labsys.specs.declared.trails.ReadTrail.{ReadTrail}
 use Rattle.lab_engine.specs.Input.{Input, input_of}
 use Rattle.lab_engine.specs.LeastInput.{least_of}
 use Rattle.lab_engine.specs.Order.{Sent, order_of, to_out}
@@ -115,11 +116,11 @@ abbrev pub due_of_least : Input → Due
 due_of_least i = record { order = order_of_least i; status = ends_with i.script.ending }
 
 -- what is due of a trail of which a word picks records
-abbrev pub due_of_select : List ℕ → Result Trail InputEnd → Due
+abbrev pub due_of_select : List ℕ → ReadTrail → Due
 due_of_select word t = record { order = to_out (text_of_select word t); status = ends_with (ending_by_word word t) }
 
 -- what is due of a trail whose records may follow one another or not
-abbrev pub due_of_lineage : Result Trail InputEnd → Due
+abbrev pub due_of_lineage : ReadTrail → Due
 due_of_lineage t = record { order = to_out (text_of_lineage t); status = ends_with (ending_of_lineage t) }
 
 -- what is due of a command, by the bytes of the source

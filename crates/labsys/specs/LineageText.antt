@@ -1,5 +1,5 @@
 -- What is written of a trail whose records may follow one another or not.
-use Rattle.std.specs.Prelude.{◌≡◌, ◌⊎◌, ℕ, ◌+◌, List, [], ◌∷◌, ◌++◌, length, Result, Ok, Err, codes}
+use Rattle.std.specs.Prelude.{◌≡◌, ◌⊎◌, ℕ, ◌+◌, List, [], ◌∷◌, ◌++◌, length, codes}
 use Rattle.std.specs.Fmt.{decimal}
 use Rattle.fs_path.specs.Words.{line_text}
 use Rattle.aud_record.specs.Header.{bound_number}
@@ -13,6 +13,8 @@ use Rattle.iso_laws.specs.Follows.{AllFollow}
 use Rattle.lab_engine.specs.declared.ending.InputEnd.{InputEnd}
 use Rattle.lab_engine.specs.declared.ending.InputEnd.TheVariants.{Whole}
 use Rattle.lab_engine.specs.Texts.{last_text}
+use Rattle.labsys.specs.declared.trails.ReadTrail.{ReadTrail}
+use Rattle.labsys.specs.declared.trails.ReadTrail.TheVariants as read_is
 
 -- the words of an answer, for a trail with so many lines before its records and so many records: `yes COUNT`, or `no LINE WORD` with the line of the first
 -- record that may not come where it stands
@@ -32,14 +34,14 @@ abbrev pub lineage_text : Trail → List ℕ
 lineage_text t = line_for t (lineage_of t.bound (recs_of t))
 
 -- what is written of an input; without a trail it is the last line alone
-abbrev pub text_of_lineage : Result Trail InputEnd → List ℕ
-text_of_lineage (Ok t) = lineage_text t
-text_of_lineage (Err ending) = last_text 0 ending
+abbrev pub text_of_lineage : ReadTrail → List ℕ
+text_of_lineage (read_is.Trail t) = lineage_text t
+text_of_lineage (read_is.Ended ending) = last_text 0 ending
 
 -- how an input ends
-abbrev pub ending_of_lineage : Result Trail InputEnd → InputEnd
-ending_of_lineage (Ok t) = Whole
-ending_of_lineage (Err ending) = ending
+abbrev pub ending_of_lineage : ReadTrail → InputEnd
+ending_of_lineage (read_is.Trail t) = Whole
+ending_of_lineage (read_is.Ended ending) = ending
 
 -- ---- what the line says
 

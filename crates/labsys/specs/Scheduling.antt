@@ -1,5 +1,5 @@
 -- What is written of an input of programs, which are played in turns by label.
-use Rattle.std.specs.Prelude.{ℕ, List, Result, Ok, Err, map}
+use Rattle.std.specs.Prelude.{ℕ, List, map}
 use Rattle.kern_model.specs.Boot.{boot, boot_recs}
 use Rattle.lab_engine.specs.declared.ending.InputEnd.{InputEnd}
 use Rattle.lab_engine.specs.declared.ending.InputEnd.TheVariants.{Whole}
@@ -7,6 +7,8 @@ use Rattle.lab_engine.specs.Input.{Accepted, Begun, HasWorld, NoWorld, Script, b
 use Rattle.lab_engine.specs.Order.{Sent, session_order, to_out}
 use Rattle.lab_engine.specs.Session.{Session}
 use Rattle.lab_engine.specs.Texts.{last_text}
+use Rattle.sched_engine.specs.declared.reading.ReadSchedule.{ReadSchedule}
+use Rattle.sched_engine.specs.declared.reading.ReadSchedule.TheVariants as read_is
 use Rattle.sched_engine.specs.declared.schedule.Expecting.TheVariants as at
 use Rattle.sched_engine.specs.declared.schedule.Schedule.{Schedule}
 use Rattle.sched_engine.specs.Reading.{schedule_from}
@@ -24,9 +26,9 @@ pub data ProgramInput : Type 0 where
   NoSchedule : (ending : InputEnd) → ProgramInput
 
 -- the input of an accepted world, by the schedule after it, or by how it ends without one
-abbrev pub with_schedule : Accepted → Result Schedule InputEnd → ProgramInput
-with_schedule a (Ok s) = HasSchedule a s
-with_schedule a (Err ending) = NoSchedule ending
+abbrev pub with_schedule : Accepted → ReadSchedule → ProgramInput
+with_schedule a (read_is.Schedule s) = HasSchedule a s
+with_schedule a (read_is.Ended ending) = NoSchedule ending
 
 -- the same by what the input is at the end of its world
 abbrev pub programs_by : Begun → ProgramInput

@@ -14,6 +14,8 @@ use Rattle.lab_engine.specs.declared.ending.CommandWord.TheVariants as command_w
 use Rattle.lab_engine.specs.declared.ending.InputEnd.{InputEnd}
 use Rattle.lab_engine.specs.declared.ending.InputEnd.TheVariants.{Whole, RefusedWord}
 use Rattle.lab_engine.specs.Texts.{last_text}
+use Rattle.labsys.specs.declared.trails.ReadTrail.{ReadTrail}
+use Rattle.labsys.specs.declared.trails.ReadTrail.TheVariants as read_is
 
 -- ---- a selection
 
@@ -49,11 +51,11 @@ text_of_selection t (Err e) = last_text 0 (ending_of_select e)
 -- ---- an input
 
 -- what is written of an input by the word; without a trail it is the last line alone
-abbrev pub text_of_select : List ℕ → Result Trail InputEnd → List ℕ
-text_of_select word (Ok t) = text_of_selection t (parse_select t.policy word)
-text_of_select word (Err ending) = last_text 0 ending
+abbrev pub text_of_select : List ℕ → ReadTrail → List ℕ
+text_of_select word (read_is.Trail t) = text_of_selection t (parse_select t.policy word)
+text_of_select word (read_is.Ended ending) = last_text 0 ending
 
 -- how an input ends by the word
-abbrev pub ending_by_word : List ℕ → Result Trail InputEnd → InputEnd
-ending_by_word word (Ok t) = ending_of_selection (parse_select t.policy word)
-ending_by_word word (Err ending) = ending
+abbrev pub ending_by_word : List ℕ → ReadTrail → InputEnd
+ending_by_word word (read_is.Trail t) = ending_of_selection (parse_select t.policy word)
+ending_by_word word (read_is.Ended ending) = ending

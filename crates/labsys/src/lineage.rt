@@ -9,7 +9,7 @@ ghost use Rattle.labsys.specs.Playing.{CommandDid};
 
 use crate::Command;
 use crate::playing::end_without_world;
-use crate::trails::read_trail;
+use crate::trails::{ReadTrail, read_trail};
 use aud_red::{Lineage, NoMemory, Trail, check_lineage, header_lines};
 use io_ends::{Sink, Source};
 use lab_engine::{Fault, InputEnd, answer};
@@ -62,10 +62,10 @@ pub fn lineage<S: Source, K: Sink>(
         (ends (S.view source.new).faults (K.view out.new) trail) }
 {
     match read_trail(alloc, source)? {
-        Ok(trail) => {
+        ReadTrail::Trail(trail) => {
             write_lineage(alloc, &trail, out)?;
             Ok(InputEnd::Whole)
         }
-        Err(ending) => end_without_world(alloc, ending, out),
+        ReadTrail::Ended(ending) => end_without_world(alloc, ending, out),
     }
 }

@@ -14,7 +14,7 @@ use crate::playing::{end_without_world, finish};
 use io_ends::{Sink, Source};
 use kern_core::Kernel;
 use lab_engine::{Fault, InputEnd, Opened, OpenedWorld, Played, Texts, open_input, write_head};
-use sched_engine::{Schedule, read_schedule, report_programs};
+use sched_engine::{ReadSchedule, Schedule, read_schedule, report_programs};
 use std::alloc::Global;
 use world_text::{Format, WorldText};
 
@@ -80,11 +80,11 @@ fn run_world<S: Source, K: Sink, T: Sink>(
     };
     let found = read_schedule(texts, &mut lines, source)?;
     match found {
-        Ok(schedule) => {
+        ReadSchedule::Schedule(schedule) => {
             run_schedule(alloc, read, &schedule, out, trail)?;
             Ok(InputEnd::Whole)
         }
-        Err(ending) => end_without_world(alloc, ending, out),
+        ReadSchedule::Ended(ending) => end_without_world(alloc, ending, out),
     }
 }
 

@@ -8,7 +8,7 @@ ghost use Rattle.labsys.specs.Playing.{CommandDid};
 ghost use Rattle.labsys.specs.Selecting.{count_selected, ending_of_select, selected_line, selected_text, text_of_selection, ending_of_selection};
 
 use crate::playing::end_without_world;
-use crate::trails::read_trail;
+use crate::trails::{ReadTrail, read_trail};
 use crate::{Argument, Command};
 use aud_record::ReadRec;
 use aud_red::{NoMemory, Select, SelectError, Trail, json_text};
@@ -118,7 +118,7 @@ pub fn select<S: Source, K: Sink>(
         (ends (S.view source.new).faults (K.view out.new) trail) }
 {
     match read_trail(alloc, source)? {
-        Ok(trail) => select_from(alloc, &word, &trail, out),
-        Err(ending) => end_without_world(alloc, ending, out),
+        ReadTrail::Trail(trail) => select_from(alloc, &word, &trail, out),
+        ReadTrail::Ended(ending) => end_without_world(alloc, ending, out),
     }
 }

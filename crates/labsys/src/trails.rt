@@ -31,20 +31,26 @@ fn refused_line(line: usize, why: LineFault) -> InputEnd
     InputEnd::Refused(line as u64, Part::Trail, why)
 }
 
+/// What reading a trail leads to.
+#[derive(Drop)]
+pub enum ReadTrail {
+    /// A trail, which goes on to the end of the input.
+    Trail(Trail),
+    /// The input ends without one.
+    Ended(InputEnd),
+}
+
 /// Reads a source to its end, or to one byte past the limit, and returns the trail that it holds, or how it ends without one.
-pub fn read_trail<S: Source>(
-    alloc: Global,
-    source: &mut S,
-) -> Result<Result<Trail, InputEnd>, Fault>
+pub fn read_trail<S: Source>(alloc: Global, source: &mut S) -> Result<ReadTrail, Fault>
     ensures reads { ReadsTrail result (S.view source.old).left (S.view source.new).left }
     ensures counts { (o t : ℕ) → CountsOnce result (counts (S.view source.old).faults o t) (counts (S.view source.new).faults o t) }
 {
     let whole = read_whole(alloc, source, MAX_INPUT)?;
     if whole.more {
-        return Ok(Err(InputEnd::TooMuch));
+        return Ok(ReadTrail::Ended(InputEnd::TooMuch));
     }
     match Trail::read(alloc, whole.bytes.items()) {
-        Ok(trail) => Ok(Ok(trail)),
-        Err(error) => Ok(Err(ending_of_error(error)?)),
+        Ok(trail) => Ok(ReadTrail::Trail(trail)),
+        Err(error) => Ok(ReadTrail::Ended(ending_of_error(error)?)),
     }
 }

@@ -28,18 +28,20 @@ use Rattle.lab_engine.specs.declared.ending.Part.TheVariants as part
 use Rattle.lab_engine.specs.Input.{last_piece}
 use Rattle.lab_engine.specs.Reading.{Takes, left_of}
 use Rattle.lab_engine.proofs.LeftLemmas.{left_line, left_long, left_part, left_past}
+use Rattle.sched_engine.specs.declared.reading.ReadSchedule.{ReadSchedule}
+use Rattle.sched_engine.specs.declared.reading.ReadSchedule.TheVariants as read_is
 use Rattle.sched_engine.specs.declared.reading.ScheduleLine.{ScheduleLine}
 use Rattle.sched_engine.specs.declared.reading.ScheduleLine.TheVariants as schedule_line
 use Rattle.sched_engine.specs.declared.schedule.Expecting.{Expecting}
 use Rattle.sched_engine.specs.declared.schedule.Schedule.{Schedule}
-use Rattle.sched_engine.specs.Reading.{IsFaultIn, ReadsLine, after_line, at_end, go_on, schedule_from, schedule_left}
+use Rattle.sched_engine.specs.Reading.{IsFaultIn, ReadsLine, after_line, at_end, go_on, schedule_from, schedule_left, schedule_or}
 use Rattle.sched_engine.specs.Schedule.{step_line, whole}
 use Rattle.sched_engine.proofs.ScheduleLemmas.{step_plays, whole_plays}
 
 -- ---- one step of the definition
 
 -- what is left is read as the rest of a schedule
-abbrev schedule_by : PolicyNames → Expecting → Bool → ℕ → List (List ℕ) → Result Schedule InputEnd
+abbrev schedule_by : PolicyNames → Expecting → Bool → ℕ → List (List ℕ) → ReadSchedule
 schedule_by policy due over n ps = schedule_from over policy n due ps
 
 last_of : (policy : PolicyNames) (due : Expecting) (over : Bool) (n : ℕ) (last : List ℕ) → schedule_by policy due over n (last ∷ []) ≡ at_end due n (last_piece over n last)
@@ -88,8 +90,8 @@ module _ (policy : PolicyNames) (due : Expecting) (before now : LinesState) (got
   abbrev text : List ℕ
   text = before.held ++ got
 
-  abbrev refused_by : LineFault → Result Schedule InputEnd
-  refused_by why = Err (Refused now.number part.Script why)
+  abbrev refused_by : LineFault → ReadSchedule
+  refused_by why = read_is.Ended (Refused now.number part.Script why)
 
   -- a line
   module _ (gives : GivesLine text before.room now) where
@@ -110,7 +112,7 @@ module _ (policy : PolicyNames) (due : Expecting) (before now : LinesState) (got
 
   -- the last piece
   module _ (left : Option (List ℕ)) where
-    abbrev found : Result Schedule InputEnd
+    abbrev found : ReadSchedule
     found = schedule_left policy due before (got ++ left_of left)
 
     -- it is the text, within the limit
@@ -122,7 +124,7 @@ module _ (policy : PolicyNames) (due : Expecting) (before now : LinesState) (got
     empty_part none = subst (λ (t : List ℕ). HoldsPart t before.room) (sym none) (record { no_line = take_nothing before.room; short = omega (arith, take_none before.room) })
 
     -- the source ended after a line
-    pub nothing_left : text ≡ [] → IsAtEnd left → found ≡ ok_or (whole due) (Refused now.number part.Script fault.Syntax)
+    pub nothing_left : text ≡ [] → IsAtEnd left → found ≡ schedule_or (whole due) (Refused now.number part.Script fault.Syntax)
     nothing_left none end =
         part_left (empty_part none) (subst (λ (t : List ℕ). length t ≤ before.room) (sym none) (omega arith)) end
         ∙ ap (λ (t : List ℕ). at_end due now.number (last_piece false now.number t)) none
@@ -134,7 +136,7 @@ module _ (policy : PolicyNames) (due : Expecting) (before now : LinesState) (got
         part_left holds le end ∙ ap (at_end due now.number) (unended_piece now.number text some short)
 
     -- it goes on past the limit
-    pub past_left : HoldsPart text before.room → before.room < length text → found ≡ Err TooMuch
+    pub past_left : HoldsPart text before.room → before.room < length text → found ≡ read_is.Ended TooMuch
     unfolding schedule_left
     past_left holds past =
         left_past (schedule_by policy due) before now got number holds past left ∙ last_of policy due true now.number (take before.room text)
@@ -163,11 +165,11 @@ module _ (policy : PolicyNames) (due : Expecting) (before now : LinesState) (lef
     reads says = ReadsLine (Ok says) policy due before now left left'
 
     -- the input ends, or a line is refused
-    ends_by : (e : InputEnd) → schedule_left policy due before (a.got ++ left_of left') ≡ Err e → (says : ScheduleLine) → says ≡ schedule_line.Ended (Err e) → reads says
+    ends_by : (e : InputEnd) → schedule_left policy due before (a.got ++ left_of left') ≡ read_is.Ended e → (says : ScheduleLine) → says ≡ schedule_line.Ended (read_is.Ended e) → reads says
     ends_by e is says same = subst reads (sym same) (record { taken = a.got; takes = step_takes a; shows = record { says = sym is; plays = λ _. tt; to_the_end = tt } })
 
     abbrev refusal : LineFault → ScheduleLine
-    refusal why = schedule_line.Ended (Err (Refused now.number part.Script why))
+    refusal why = schedule_line.Ended (read_is.Ended (Refused now.number part.Script why))
 
     -- a line was given
     module _ (given : next ≡ next_line.Line) (line : List ℕ) (line_is_now : line ≡ now.line) where
@@ -215,22 +217,22 @@ module _ (policy : PolicyNames) (due : Expecting) (before now : LinesState) (lef
 
     -- no line was given
     module _ (given : next ≡ next_line.End) (w : Option Schedule) (is : w ≡ whole due) where
-      at_the_end : schedule_left policy due before (a.got ++ left_of left') ≡ ok_or w (Refused now.number part.Script fault.Syntax)
-      at_the_end = let x = answers next_line.End given in nothing_left policy due before now a.got a.number left' x.1 x.2 ∙ ap (λ (v : Option Schedule). ok_or v (Refused now.number part.Script fault.Syntax)) (sym is)
+      at_the_end : schedule_left policy due before (a.got ++ left_of left') ≡ schedule_or w (Refused now.number part.Script fault.Syntax)
+      at_the_end = let x = answers next_line.End given in nothing_left policy due before now a.got a.number left' x.1 x.2 ∙ ap (λ (v : Option Schedule). schedule_or v (Refused now.number part.Script fault.Syntax)) (sym is)
 
-      pub reads_whole : (schedule : Schedule) → w ≡ Some schedule → reads (schedule_line.Ended (Ok schedule))
+      pub reads_whole : (schedule : Schedule) → w ≡ Some schedule → reads (schedule_line.Ended (read_is.Schedule schedule))
       reads_whole schedule some = record {
         taken = a.got;
         takes = step_takes a;
         shows = record {
-          says = sym (at_the_end ∙ ap (λ (v : Option Schedule). ok_or v (Refused now.number part.Script fault.Syntax)) some);
+          says = sym (at_the_end ∙ ap (λ (v : Option Schedule). schedule_or v (Refused now.number part.Script fault.Syntax)) some);
           plays = λ may. whole_plays (top_of policy) due may schedule (sym is ∙ some);
           to_the_end = (answers next_line.End given).2;
         };
       }
 
       pub reads_early_end : w ≡ None → (says : ScheduleLine) → says ≡ refusal fault.Syntax → reads says
-      reads_early_end none = ends_by (Refused now.number part.Script fault.Syntax) (at_the_end ∙ ap (λ (v : Option Schedule). ok_or v (Refused now.number part.Script fault.Syntax)) none)
+      reads_early_end none = ends_by (Refused now.number part.Script fault.Syntax) (at_the_end ∙ ap (λ (v : Option Schedule). schedule_or v (Refused now.number part.Script fault.Syntax)) none)
 
     pub reads_unended : next ≡ next_line.Unended → (says : ScheduleLine) → says ≡ refusal fault.Syntax → reads says
     reads_unended given = let x = answers next_line.Unended given in ends_by (Refused now.number part.Script fault.Syntax) (unended_left policy due before now a.got a.number left' x.1 x.2 x.3 x.4)
@@ -238,5 +240,5 @@ module _ (policy : PolicyNames) (due : Expecting) (before now : LinesState) (lef
     pub reads_long_line : next ≡ next_line.LongLine → (says : ScheduleLine) → says ≡ refusal fault.TooLong → reads says
     reads_long_line given = let x = answers next_line.LongLine given in ends_by (Refused now.number part.Script fault.TooLong) (long_left policy due before now a.got a.number left' x.1)
 
-    pub reads_too_much : next ≡ next_line.TooMuch → reads (schedule_line.Ended (Err TooMuch))
-    reads_too_much given = let x = answers next_line.TooMuch given in ends_by TooMuch (past_left policy due before now a.got a.number left' x.1 x.2) (schedule_line.Ended (Err TooMuch)) refl
+    pub reads_too_much : next ≡ next_line.TooMuch → reads (schedule_line.Ended (read_is.Ended TooMuch))
+    reads_too_much given = let x = answers next_line.TooMuch given in ends_by TooMuch (past_left policy due before now a.got a.number left' x.1 x.2) (schedule_line.Ended (read_is.Ended TooMuch)) refl

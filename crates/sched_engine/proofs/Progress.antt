@@ -4,15 +4,15 @@ use Rattle.std.specs.Prelude.{IsErrAnd, IfOk, Result, Ok, Err}
 use Rattle.io_ends.specs.LinesState.{LinesState}
 use Rattle.lab_text.specs.Policy.{PolicyNames, top_of}
 use Rattle.lab_engine.specs.declared.ending.Fault.{Fault}
-use Rattle.lab_engine.specs.declared.ending.InputEnd.{InputEnd}
 use Rattle.lab_engine.specs.Reading.{Takes, left_of}
 use Rattle.lab_engine.proofs.ReadSoFar.{takes_more, takes_nothing}
+use Rattle.sched_engine.specs.declared.reading.ReadSchedule.{ReadSchedule}
 use Rattle.sched_engine.specs.declared.reading.ScheduleLine.{ScheduleLine}
 use Rattle.sched_engine.specs.declared.reading.ScheduleLine.TheVariants as schedule_line
 use Rattle.sched_engine.specs.declared.schedule.Expecting.{Expecting}
 use Rattle.sched_engine.specs.declared.schedule.Expecting.TheVariants as at
 use Rattle.sched_engine.specs.declared.schedule.Schedule.{Schedule}
-use Rattle.sched_engine.specs.Reading.{ReadsLine, ReadsSchedule, schedule_left}
+use Rattle.sched_engine.specs.Reading.{IfSchedule, ReadsLine, ReadsSchedule, schedule_left}
 use Rattle.sched_engine.specs.Schedule.{MayBePlayed, MayGoOn}
 
 pub record ScheduleProgress (policy : PolicyNames) (lines0 lines : LinesState) (left0 left : Option (List ℕ)) (due : Expecting) : Type 0 where
@@ -32,7 +32,7 @@ pub line_fewer : (policy : PolicyNames) (due : Expecting) (lines lines' : LinesS
 line_fewer policy due lines lines' left left' l read after is = (subst (λ k. ReadsLine (Ok k) policy due lines lines' left left') is read).shows.fewer
 
 -- a fault says nothing of what may be played
-pub fails_plays : (P : Schedule → Type 0) (r : Result (Result Schedule InputEnd) Fault) (fault : Fault) → IsErrAnd r (λ q. q ≡ fault) → IfOk r (λ found. IfOk found P)
+pub fails_plays : (P : Schedule → Type 0) (r : Result ReadSchedule Fault) (fault : Fault) → IsErrAnd r (λ q. q ≡ fault) → IfOk r (λ found. IfSchedule found P)
 fails_plays P (Ok x) fault is = absurd is
 fails_plays P (Err q) fault is = tt
 
@@ -54,7 +54,7 @@ module _ (policy : PolicyNames) (lines0 lines lines' : LinesState) (left0 left l
   }
 
   -- the schedule ends
-  module _ (found : Result Schedule InputEnd) (l : ScheduleLine) (is : l ≡ schedule_line.Ended found) (read : ReadsLine (Ok l) policy due lines lines' left left') where
+  module _ (found : ReadSchedule) (l : ScheduleLine) (is : l ≡ schedule_line.Ended found) (read : ReadsLine (Ok l) policy due lines lines' left left') where
     abbrev last : ReadsLine (Ok (schedule_line.Ended found)) policy due lines lines' left left'
     last = subst (λ k. ReadsLine (Ok k) policy due lines lines' left left') is read
 
@@ -66,10 +66,10 @@ module _ (policy : PolicyNames) (lines0 lines lines' : LinesState) (left0 left l
       to_the_end = last.shows.to_the_end;
     }
 
-    pub found_plays : IfOk found (MayBePlayed (top_of policy))
+    pub found_plays : IfSchedule found (MayBePlayed (top_of policy))
     found_plays = last.shows.plays p.plays
 
   -- a fault stopped the reading
-  pub reading_fails : (r : Result (Result Schedule InputEnd) Fault) (fault : Fault) → IsErrAnd r (λ q. q ≡ fault) → ReadsLine (Err fault) policy due lines lines' left left' → ReadsSchedule r policy lines0 lines' left0 left'
+  pub reading_fails : (r : Result ReadSchedule Fault) (fault : Fault) → IsErrAnd r (λ q. q ≡ fault) → ReadsLine (Err fault) policy due lines lines' left left' → ReadsSchedule r policy lines0 lines' left0 left'
   reading_fails (Ok x) fault is r = absurd is
   reading_fails (Err q) fault is r = record { taken = p.taken ++ r.taken; takes = all_takes r.taken r.takes; shows = tt; to_the_end = tt }

@@ -6,6 +6,6 @@ mod reading;
 mod reporting;
 mod schedule;
 
-pub use reading::read_schedule;
+pub use reading::{ReadSchedule, read_schedule};
 pub use reporting::{ProgramReporter, report_programs};
 pub use schedule::Schedule;

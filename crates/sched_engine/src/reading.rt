@@ -1,9 +1,9 @@
 // A schedule, read line by line.
-ghost use Rattle.std.specs.Prelude.{◌≡◌, ℕ, true, IfOk, Ok, Err};
+ghost use Rattle.std.specs.Prelude.{◌≡◌, ℕ, true, IfOk};
 ghost use Rattle.lab_engine.specs.Counts.{CountsOnce, counts};
 ghost use Rattle.lab_text.specs.Policy.{top_of};
 ghost use Rattle.fs_path.specs.Words.{words_of};
-ghost use Rattle.sched_engine.specs.Reading.{IsFaultIn, ReadsLine, ReadsSchedule, are_many_slices};
+ghost use Rattle.sched_engine.specs.Reading.{IfSchedule, IsFaultIn, ReadsLine, ReadsSchedule, are_many_slices};
 ghost use Rattle.sched_engine.specs.Schedule.{MayBePlayed};
 
 use crate::schedule::{Expecting, MAX_SLICES, Schedule};
@@ -15,21 +15,30 @@ use line_text::LineFault;
 use script_text::{LineError, read_step};
 use std::alloc::Global;
 
+/// What reading a schedule leads to.
+#[derive(Drop)]
+pub enum ReadSchedule {
+    /// A schedule, which goes on to the end of the input.
+    Schedule(Schedule),
+    /// The input ends without one.
+    Ended(InputEnd),
+}
+
 /// What reading a line of a schedule leads to.
 #[derive(Drop)]
 pub enum ScheduleLine {
     /// This is due after it.
     GoesOn(Expecting),
-    /// The schedule ends here, or the input does before it.
-    Ended(Result<Schedule, InputEnd>),
+    /// The input ends here.
+    Ended(ReadSchedule),
 }
 
 // The end of an input at the line that was asked for last, which is refused.
 fn refused(lines: &Lines, why: LineFault) -> ScheduleLine
-    ensures { result ≡ ScheduleLine.Ended (Err (InputEnd.Refused lines.now.number Part.Script why)) }
+    ensures { result ≡ ScheduleLine.Ended (ReadSchedule.Ended (InputEnd.Refused lines.now.number Part.Script why)) }
 {
     let ending = InputEnd::Refused(u64::from(lines.number()), Part::Script, why);
-    ScheduleLine::Ended(Err(ending))
+    ScheduleLine::Ended(ReadSchedule::Ended(ending))
 }
 
 // Whether a line is `slices` with more labels than may have turns.
@@ -83,12 +92,12 @@ fn read_schedule_line<S: Source>(
             }
         }
         Next::End => match due.into_schedule()? {
-            Some(schedule) => Ok(ScheduleLine::Ended(Ok(schedule))),
+            Some(schedule) => Ok(ScheduleLine::Ended(ReadSchedule::Schedule(schedule))),
             None => Ok(refused(lines, LineFault::Syntax)),
         },
         Next::Unended => Ok(refused(lines, LineFault::Syntax)),
         Next::LongLine => Ok(refused(lines, LineFault::TooLong)),
-        Next::TooMuch => Ok(ScheduleLine::Ended(Err(InputEnd::TooMuch))),
+        Next::TooMuch => Ok(ScheduleLine::Ended(ReadSchedule::Ended(InputEnd::TooMuch))),
     }
 }
 
@@ -97,10 +106,10 @@ pub fn read_schedule<S: Source>(
     texts: Texts<'_>,
     lines: &mut Lines,
     source: &mut S,
-) -> Result<Result<Schedule, InputEnd>, Fault>
+) -> Result<ReadSchedule, Fault>
     requires { lines.old.more ≡ true }
     ensures reads { ReadsSchedule result texts.entry.policy.now lines.old lines.new (S.view source.old).left (S.view source.new).left }
-    ensures plays { IfOk result (λ found. IfOk found (MayBePlayed (top_of texts.entry.policy.now))) }
+    ensures plays { IfOk result (λ found. IfSchedule found (MayBePlayed (top_of texts.entry.policy.now))) }
     ensures counts { (o t : ℕ) → CountsOnce result (counts (S.view source.old).faults o t) (counts (S.view source.new).faults o t) }
 {
     let mut due = Expecting::Slices;
