@@ -41,16 +41,7 @@ fn run_schedule<K: Sink, T: Sink>(
     let (mut kernel, recs) = Kernel::boot_from(alloc, world)?;
     write_head(texts, &bound, recs.items(), trail)?;
     let living = kernel.live()?;
-    let count = report_programs(
-        &mut kernel,
-        &living,
-        &schedule.programs,
-        &schedule.slices,
-        schedule.rounds,
-        texts,
-        out,
-        trail,
-    )?;
+    let count = report_programs(&mut kernel, &living, schedule, texts, out, trail)?;
     let played = Played {
         count,
         ending: InputEnd::Whole,

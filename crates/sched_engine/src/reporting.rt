@@ -13,12 +13,13 @@ ghost use Rattle.sched_progs.specs.Watching.{item_of};
 ghost use Rattle.sched_progs.specs.Chosen.{record_of_item};
 ghost use Rattle.sched_engine.specs.Reporting.{AreItemsReadable, HoldItemsSince, item_sends, items_in, items_sends, sched_fault_of};
 
+use crate::schedule::Schedule;
 use ghost_list::GhostList;
 use io_ends::Sink;
 use kern_model::{Call, Calls, NoMemory, Outcome, Pid, PidList};
 use lab_engine::{Fault, Texts, answer, note_all};
-use sched_progs::{ProgramTable, SchedFault, Watch, run_programs};
-use script_text::{LabelList, reply_text};
+use sched_progs::{SchedFault, Watch, run_programs};
+use script_text::reply_text;
 use std::mem::replace;
 
 // A call that a program made, with what came of it.
@@ -190,27 +191,25 @@ impl<'a, K: Sink, T: Sink> Watch for ProgramReporter<'a, K, T> {
     ghost rest_trans = { λ a b c p q. (q.0 ∙ p.0, (q.1.0 ∙ p.1.0, p.1.1 ∙ q.1.1, p.1.2 ∙ q.1.2)) };
 }
 
-/// Runs the programs of the living processes in turns by label, and reports each call as soon as it is answered: its
-/// records to the trail, and then its reply to the output. Returns how many calls there were.
+/// Runs the programs of a schedule in turns by label, those of the living processes, and reports each call as soon as it is
+/// answered: its records to the trail, and then its reply to the output. Returns how many calls there were.
 pub fn report_programs<C: Calls, K: Sink, T: Sink>(
     kernel: &mut C,
     living: &PidList,
-    programs: &ProgramTable,
-    slices: &LabelList,
-    rounds: u32,
+    schedule: &Schedule,
     texts: Texts<'_>,
     out: &mut K,
     trail: &mut T,
 ) -> Result<u64, Fault>
     requires valid { IsValid (C.state kernel.old) }
     requires living { living.now ≡ map.keys (C.state kernel.old).procs }
-    requires programs { are_programs (C.state kernel.old).top programs.now ≡ true }
+    requires programs { are_programs (C.state kernel.old).top schedule.now.programs ≡ true }
     requires top { (C.state kernel.old).top ≡ top_of texts.policy.now }
-    ensures writes { WritesBoth result (items_sends texts.entry.policy.now (loop (C.state kernel.old) programs.now slices.now rounds))
+    ensures writes { WritesBoth result (items_sends texts.entry.policy.now (loop (C.state kernel.old) schedule.now.programs schedule.now.slices schedule.now.rounds))
         (K.view out.old) (K.view out.new) (T.view trail.old) (T.view trail.new) }
-    ensures count { IfOk result (λ count. count ≡ length (loop (C.state kernel.old) programs.now slices.now rounds)) }
-    ensures state { OnOk result (C.state kernel.new ≡ loop_end (C.state kernel.old) programs.now slices.now rounds) }
-    ensures readable { OnOk result (AreItemsReadable texts.entry.policy.now (loop (C.state kernel.old) programs.now slices.now rounds)) }
+    ensures count { IfOk result (λ count. count ≡ length (loop (C.state kernel.old) schedule.now.programs schedule.now.slices schedule.now.rounds)) }
+    ensures state { OnOk result (C.state kernel.new ≡ loop_end (C.state kernel.old) schedule.now.programs schedule.now.slices schedule.now.rounds) }
+    ensures readable { OnOk result (AreItemsReadable texts.entry.policy.now (loop (C.state kernel.old) schedule.now.programs schedule.now.slices schedule.now.rounds)) }
 {
     let room = &mut Vec::new(texts.alloc);
     let mut reporter = ProgramReporter::new(texts, room, out, trail);
@@ -218,9 +217,9 @@ pub fn report_programs<C: Calls, K: Sink, T: Sink>(
         texts.alloc,
         kernel,
         living,
-        programs,
-        slices,
-        rounds,
+        &schedule.programs,
+        &schedule.slices,
+        schedule.rounds,
         &mut reporter,
     ) {
         Ok(()) => Ok(reporter.count()),
