@@ -79,7 +79,7 @@ FitsCommand Lineage = Unit {0}
 
 -- ---- what is due
 
--- the status of an input that was played to its end
+-- the status by how an input ends
 abbrev pub ends_with : InputEnd → Status
 ends_with Whole = Done
 ends_with (IsRefused n part why) = Refused

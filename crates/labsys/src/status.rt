@@ -5,11 +5,11 @@ ghost use Rattle.labsys.specs.Exit.{is_reported};
 /// How a run ended. The number is the exit status of the program.
 #[derive(Clone, Copy, Debug, PartialEq, Eq)]
 pub enum Status {
-    /// The input was played to its end.
+    /// The input was accepted to its end, and all that is due was written. `gen` and `drill` have no input.
     Done,
     /// The arguments name no command.
     Usage,
-    /// A line was refused.
+    /// A line of the input was refused, or the label of `view`, or what `select` is to pick.
     Refused,
     /// A read failed.
     ReadFault,
