@@ -6,3 +6,4 @@ pub mod Unquoted
 pub mod JsonText
 pub mod KeyOrder
 pub mod LineageLemmas
+pub mod WrittenTrail

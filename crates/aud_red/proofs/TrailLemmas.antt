@@ -1,7 +1,7 @@
 -- How a trail is read, record by record, and that what is written is read again.
-use Rattle.std.specs.Prelude.{◌≡◌, ℕ, ◌+◌, ◌≤◌, ◌<◌, ◌==◌, ⊤, nat_le, Bool, true, false, cond, List, [], ◌∷◌, ◌++◌, length, take, drop, Option, None, Some, Result, Ok, Err, refl}
+use Rattle.std.specs.Prelude.{◌≡◌, ℕ, ◌+◌, ◌^◌, ◌≤◌, ◌<◌, ◌==◌, ⊤, nat_le, Bool, true, false, cond, List, [], ◌∷◌, ◌++◌, length, take, drop, Option, None, Some, Result, Ok, Err, refl}
 use Rattle.std.specs.Bool.{MatchBool}
-use Rattle.std.specs.List.{All}
+use Rattle.std.specs.List.{All, AllByRecursion}
 use Rattle.std.specs.Result.{IsErrAnd}
 use Rattle.std.proofs.Common.{ap, sym, subst, ◌∙◌, arith, append_assoc}
 use Rattle.std.proofs.lemmas.Bool.{eqb-true, le-leb, leb-true}
@@ -16,7 +16,7 @@ use Rattle.aud_record.proofs.FormLaws.{bound_is}
 use Rattle.aud_record.proofs.HeaderLaws.{header_round_trip, header_is}
 use Rattle.aud_record.proofs.RoundTrip.{rec_round_trip, rec_is}
 use Rattle.aud_record.proofs.WordLaws.{split_is}
-use Rattle.aud_record.specs.Fits.{IsInRange}
+use Rattle.aud_record.specs.Fits.{IsInRange, rec_fits}
 use Rattle.aud_record.specs.Header.{bound_number, parse_header}
 use Rattle.aud_record.specs.Parsed.{parse_line, line_read, read_by, parse_rec}
 use Rattle.aud_record.specs.Results.{AnswersAs, FailsBy}
@@ -194,18 +194,33 @@ begins_read p n low (b ∷ bs) r h order =
     ∙ ap (λ (read : Result ReadRec RecError). rec_from n low read >>= after_rec p n (b ∷ bs)) h
     ∙ ap (λ (v : Bool). cond v (Ok r) (Err (error.Record n)) >>= after_rec p n (b ∷ bs)) (le-leb low r.call order)
 
-pub recs_round_trip : (p : PolicyNames) (recs : List ReadRec) (n low : ℕ) → MakePolicy p → All (IsRecOf p) recs → All (λ (r : ReadRec). IsInRange r.call r.rec) recs → NeverFall low recs
-    → parse_recs p n low (pieces 10 (recs_text p recs)) ≡ Ok recs
-recs_round_trip p [] n low makes each ranges order = none_read p n low
-recs_round_trip p (r ∷ rs) n low makes each ranges order =
+-- a record is read from its line: the number of its call and the record itself fit, and it has the number of bytes of the line
+pub record IsReadBack (p : PolicyNames) (r : ReadRec) : Type 0 where
+  pub call : r.call < 2 ^ 64
+  pub fit : rec_fits p r.rec ≡ true
+  pub used : r.used ≡ length (rec_text p r.call r.rec)
+
+-- so it is where its labels are valid and its numbers and bytes are in range
+read_back : (p : PolicyNames) (recs : List ReadRec) → All (IsRecOf p) recs → All (λ (r : ReadRec). IsInRange r.call r.rec) recs → AllByRecursion (IsReadBack p) recs
+read_back p [] each ranges = tt
+read_back p (r ∷ rs) each ranges =
     let is = All-head (IsRecOf p) r rs each in
-    let range = All-head (λ (r : ReadRec). IsInRange r.call r.rec) r rs ranges in
+    let range = All-head (λ (r : ReadRec). IsInRange r.call r.rec) r rs ranges in (
+      record { call = range.call_is; fit = fits_from p r.call r.rec is.labels range; used = is.used },
+      read_back p rs (All-tail (IsRecOf p) r rs each) (All-tail (λ (r : ReadRec). IsInRange r.call r.rec) r rs ranges),
+    )
+
+recs_round_trip : (p : PolicyNames) (recs : List ReadRec) (n low : ℕ) → MakePolicy p → AllByRecursion (IsReadBack p) recs → NeverFall low recs
+    → parse_recs p n low (pieces 10 (recs_text p recs)) ≡ Ok recs
+recs_round_trip p [] n low makes each order = none_read p n low
+recs_round_trip p (r ∷ rs) n low makes each order =
+    let is = each.0 in
     let read : parse_rec p (rec_text p r.call r.rec ++ recs_text p rs) ≡ Ok r =
-    rec_round_trip p r.call r.rec (recs_text p rs) makes range.call_is (fits_from p r.call r.rec is.labels range)
+    rec_round_trip p r.call r.rec (recs_text p rs) makes is.call is.fit
     ∙ ap (λ (n : ℕ). Ok (record { call = r.call; rec = r.rec; used = n })) (sym is.used) in
     begins_read p n low (rec_text p r.call r.rec ++ recs_text p rs) r read order.0
     ∙ ap (λ (t : List ℕ). after_line p n (pieces 10 t) r) (drop_at (rec_text p r.call r.rec) (recs_text p rs) r.used (sym is.used))
-    ∙ ap (onto (r ∷ [])) (recs_round_trip p rs (n + 1) r.call makes (All-tail (IsRecOf p) r rs each) (All-tail (λ (r : ReadRec). IsInRange r.call r.rec) r rs ranges) order.1)
+    ∙ ap (onto (r ∷ [])) (recs_round_trip p rs (n + 1) r.call makes each.1 order.1)
 
 -- ---- a whole trail
 
@@ -241,16 +256,19 @@ trail_is text t e =
     same_trail : {x y : Trail} → ◌≡◌ {A = Result Trail TrailError} (Ok x) (Ok y) → x ≡ y
     same_trail e = cc
 
--- the text of a trail is read as that trail
-pub trail_round_trip : (text : List ℕ) (t : Trail) → IsTextOf text t → All (λ (r : ReadRec). IsInRange r.call r.rec) t.recs → parse_trail text ≡ Ok t
+-- a trail whose records are read from their lines is read from its text
+pub trail_read_back : (t : Trail) → MakePolicy t.policy → AllByRecursion (IsReadBack t.policy) t.recs → NeverFall 0 t.recs → parse_trail (trail_text t) ≡ Ok t
 unfolding parse_trail trail_text
-trail_round_trip text t is ranges =
+trail_read_back t makes each order =
     let h : Header = record { policy = t.policy; bound = t.bound; used = length (header_text t.policy t.bound) } in
     let whole = header_text t.policy t.bound ++ recs_text t.policy t.recs in
-    ap parse_trail is.whole
-    ∙ ap (λ (read : Result Header HeaderError). header_or whole read >>= from_header whole) (header_round_trip t.policy t.bound (recs_text t.policy t.recs) is.names)
+    ap (λ (read : Result Header HeaderError). header_or whole read >>= from_header whole) (header_round_trip t.policy t.bound (recs_text t.policy t.recs) makes)
     ∙ ap (λ (rest : List ℕ). parse_recs t.policy (bound_number t.policy + 1) 0 (pieces 10 rest) >>= from_recs h) (drop_at (header_text t.policy t.bound) (recs_text t.policy t.recs) (length (header_text t.policy t.bound)) refl)
-    ∙ ap (λ (read : Result (List ReadRec) TrailError). read >>= from_recs h) (recs_round_trip t.policy t.recs (bound_number t.policy + 1) 0 is.names is.recs ranges is.order)
+    ∙ ap (λ (read : Result (List ReadRec) TrailError). read >>= from_recs h) (recs_round_trip t.policy t.recs (bound_number t.policy + 1) 0 makes each order)
+
+-- the text of a trail is read as that trail
+pub trail_round_trip : (text : List ℕ) (t : Trail) → IsTextOf text t → All (λ (r : ReadRec). IsInRange r.call r.rec) t.recs → parse_trail text ≡ Ok t
+trail_round_trip text t is ranges = ap parse_trail is.whole ∙ trail_read_back t is.names (read_back t.policy t.recs is.recs ranges) is.order
 
 -- ---- the loop over the records
 
