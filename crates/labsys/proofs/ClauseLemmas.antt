@@ -1,7 +1,7 @@
 -- The clauses of the top call, from what a run did.
 use Rattle.std.specs.Prelude.{Result, IfOk, IfSome, Ok, Err, None, Some}
-use Rattle.std.proofs.Common.{◌≡◌, ℕ, ◌+◌, true, List, [], ◌∷◌, ◌++◌, refl, sym, ◌∙◌, ap, subst, arith}
-use Rattle.std.proofs.lemmas.List.{append-nil, append_cancel_right}
+use Rattle.std.proofs.Common.{◌≡◌, ℕ, ◌+◌, ◌≤◌, true, List, [], ◌∷◌, ◌++◌, length, refl, sym, ◌∙◌, ap, subst, arith}
+use Rattle.std.proofs.lemmas.List.{append-nil, append_cancel_left, append_cancel_right}
 use Rattle.std.proofs.KnownBytes.{Appends-nil, Consumes-nil}
 use Rattle.std.specs.declared.option.Option.{Option}
 use Rattle.std.specs.Io.KnownBytes.{Appends, Consumes, IsAtEnd}
@@ -37,7 +37,7 @@ use Rattle.lab_engine.specs.Upgrading.{UpgradedTo}
 use Rattle.lab_engine.proofs.UpgradeLaws.{upgraded}
 use Rattle.labsys.specs.Upgrading.{WorldReadsBack, order_of_upgrade, upgrade_text}
 use Rattle.labsys.specs.Viewing.{text_of_view, viewed_text}
-use Rattle.labsys.specs.Lineage.{PrintedByAny}
+use Rattle.labsys.specs.Lineage.{AnsweredYes, PrintedByAny}
 use Rattle.labsys.specs.Promises.{Plays, Upgrades, Views}
 use Rattle.labsys.specs.Readable.{InputReadable}
 use Rattle.labsys.specs.Clauses.{status_of, HasAllCalls, OnWhole, PlayedTaken, Reports, reports, if_used, reports_used, Moved, run_of, WhereReported, WhereAccepted, TakesAtMost, Covered, RepliesFirst, Printed, Dropped, Written, Isolated, IsolatedWhole, SameBelow, TwoInputs, TwoWhole}
@@ -45,6 +45,7 @@ use Rattle.lab_engine.proofs.Sending.{in_order, out_of-append, out_of-to_out, tr
 use Rattle.lab_engine.proofs.ViewLemmas.{view_alone}
 use Rattle.labsys.proofs.Coverage.{records_alone, replies_alone, session_out, session_trail, covered, replies_first, recorded}
 use Rattle.labsys.proofs.AcceptedLemmas.{accepted_input}
+use Rattle.labsys.proofs.AnsweredLemmas.{answered_yes, goes_on}
 use Rattle.labsys.proofs.InputLemmas.{left_taken, text_left}
 use Rattle.labsys.proofs.LineageLemmas.{printed_by_any}
 use Rattle.labsys.proofs.ReadableLemmas.{readable_by_then}
@@ -79,6 +80,28 @@ pub reported_gives : (old now : Reports) (P Q : List ℕ → List ℕ → List �
 reported_gives old now P Q f w text before above el eo et =
     let m = w text before above el eo et in
     record { taken = m.taken; rest = m.rest; out = m.out; trail = m.trail; text_is = m.text_is; left_is = m.left_is; out_is = m.out_is; trail_is = m.trail_is; holds = f text m.out m.trail m.holds }
+
+-- what both clauses say of what was appended
+pub reported_both : (old now : Reports) (P Q : List ℕ → List ℕ → List ℕ → Type 0) → WhereReported old now P → WhereReported old now Q → WhereReported old now (λ text out trail. P text out trail × Q text out trail)
+reported_both old now P Q v w text before above el eo et =
+    let m = v text before above el eo et in
+    let n = w text before above el eo et in
+    let out : n.out ≡ m.out = appended before n.out m.out now.out n.out_is m.out_is in
+    let trail : n.trail ≡ m.trail = appended above n.trail m.trail now.trail n.trail_is m.trail_is in
+    record {
+      taken = m.taken;
+      rest = m.rest;
+      out = m.out;
+      trail = m.trail;
+      text_is = m.text_is;
+      left_is = m.left_is;
+      out_is = m.out_is;
+      trail_is = m.trail_is;
+      holds = (m.holds, subst (λ (x : List ℕ × List ℕ). Q text x.0 x.1) {x = (n.out, n.trail)} (λ i. (out i, trail i)) n.holds);
+    }
+  where
+    appended : (held xs ys : List ℕ) (now : Option (List ℕ)) → now ≡ Some (held ++ xs) → now ≡ Some (held ++ ys) → xs ≡ ys
+    appended held xs ys now first second = let same : held ++ xs ≡ held ++ ys = cc in append_cancel_left held xs ys same
 
 pub whole_gives : (s : Status) (P Q : Type 0) → (P → Q) → OnWhole s P → OnWhole s Q
 whole_gives Done P Q f p = f p
@@ -163,13 +186,15 @@ session_dropped a m sent rest e = record {
   grows = subst (GrowsByExec a.world.bound) (sym (all_numbered a m)) (growth_by_records a.world m.items);
 }
 
--- a whole output begins with all replies
-all_written : (text : List ℕ) (a : Accepted) (out : List ℕ) → (input_of text).accepted ≡ Some a → out ≡ out_of (order_of (input_of text)) → IsPrefix (replies_of (bytes_of (session_of a (input_of text).script))) out
+-- a whole output is all replies and the end
+out_of_whole : (text : List ℕ) (a : Accepted) (out : List ℕ) → (input_of text).accepted ≡ Some a → out ≡ out_of (order_of (input_of text))
+    → out ≡ replies_of (bytes_of (session_of a (input_of text).script)) ++ tail_text (session_of a (input_of text).script)
 unfolding order_by
-all_written text a out is so = record {
-  rest = tail_text (session_of a (input_of text).script);
-  whole_is = so ∙ ap (λ (w : Option Accepted). out_of (order_by w (input_of text).script)) is ∙ session_out (session_of a (input_of text).script);
-}
+out_of_whole text a out is so = so ∙ ap (λ (w : Option Accepted). out_of (order_by w (input_of text).script)) is ∙ session_out (session_of a (input_of text).script)
+
+-- it begins with all replies
+all_written : (text : List ℕ) (a : Accepted) (out : List ℕ) → (input_of text).accepted ≡ Some a → out ≡ out_of (order_of (input_of text)) → IsPrefix (replies_of (bytes_of (session_of a (input_of text).script))) out
+all_written text a out is so = record { rest = tail_text (session_of a (input_of text).script); whole_is = out_of_whole text a out is so }
 
 -- what the order of all calls has for each sink
 all_calls : (a : Option Accepted) (m : Script) → HasAllCalls a m (out_of (calls_by a m)) (trail_of (calls_by a m))
@@ -401,6 +426,22 @@ module _ (r : Result InputEnd Fault) (l l' : Option (List ℕ)) (entry exit : En
   run_two_whole s is k other = whole_gives s _ _ (reported_gives before_play after_play _ _ (λ text out trail w a acc b acc' same.
       two_whole k a (input_of text).script (accepted_input text a acc) b (input_of other).script (accepted_input other b acc') same out (all_written text a out acc w.0))) (run_all Play r l l' entry exit x s is)
 
+  -- both sinks got all that is due of `play`
+  abbrev WholeSent : Type 0
+  WholeSent = WhereReported before_play after_play (λ text out trail. (out ≡ out_of (due Play text).order) × (trail ≡ trail_of (due Play text).order))
+
+  -- what `lineage` has to write of the trail, where what was played is readable
+  run_answered_yes : (s : Status) → s ≡ status_of r → ((text : List ℕ) → l ≡ Some text → InputReadable (input_of text) entry exit)
+      → OnWhole s (WhereReported before_play after_play (λ text out trail. WhereAccepted text (λ a m. length trail ≤ MAX_INPUT → AnsweredYes (session_of a m) trail)))
+  run_answered_yes s is readable =
+      whole_gives s WholeSent _ (λ all. reported_gives before_play after_play _ _ answered (reported_both before_play after_play _ _ all (run_printed_by_any readable))) (run_all Play r l l' entry exit x s is)
+    where
+      answered : (text out trail : List ℕ) → ((out ≡ out_of (due Play text).order) × (trail ≡ trail_of (due Play text).order)) × WhereAccepted text (λ a m. PrintedByAny (session_of a m) out trail)
+          → WhereAccepted text (λ a m. length trail ≤ MAX_INPUT → AnsweredYes (session_of a m) trail)
+      answered text out trail both a acc =
+          let m : Script = (input_of text).script in
+          answered_yes a m (accepted_input text a acc) trail ((both.1 a acc).own (goes_on (session_of a m) out (out_of_whole text a out acc both.0.0)))
+
   -- all that `play` promises, where what was played is readable
   pub run_play : (s : Status) → s ≡ status_of r → ((text : List ℕ) → l ≡ Some text → InputReadable (input_of text) entry exit) → Plays s before_play after_play
   run_play s is readable = record {
@@ -414,6 +455,7 @@ module _ (r : Result InputEnd Fault) (l l' : Option (List ℕ)) (entry exit : En
     printed = run_printed;
     printed_by_any = run_printed_by_any readable;
     dropped = run_dropped;
+    answered_yes = run_answered_yes s is readable;
   }
 
 -- ---- what `view` did

@@ -9,6 +9,7 @@ pub mod Printing
 pub mod Isolating
 pub mod LineageLemmas
 pub mod ReadableLemmas
+pub mod AnsweredLemmas
 pub mod PlayLemmas
 pub mod SchedulePlays
 pub mod TrailLemmas

@@ -1,7 +1,8 @@
 -- What `play`, `view`, `upgrade`, `least` and `lineage` promise, where the ends that they use report their bytes.
-use Rattle.std.specs.Prelude.{◌≡◌, ℕ, List, Some}
+use Rattle.std.specs.Prelude.{◌≡◌, ℕ, ◌≤◌, List, Some, length}
 use Rattle.lab_lattice.specs.Label.{Label}
 use Rattle.lab_text.specs.Text.{parse_label}
+use Rattle.kern_model.specs.declared.limits.TheConstants.{MAX_INPUT}
 use Rattle.kern_model.specs.Isolation.{up_to}
 use Rattle.lab_engine.specs.Input.{Accepted, Script}
 use Rattle.lab_engine.specs.Session.{session_of}
@@ -12,7 +13,7 @@ use Rattle.labsys.specs.declared.status.Status.{Status}
 use Rattle.labsys.specs.declared.status.Status.TheVariants.{Done, ReadFault}
 use Rattle.labsys.specs.Clauses.{Reports, reports_used, run_of, OnWhole, WhereReported, WhereAccepted, PlayedTaken, Covered, RepliesFirst, Printed, Dropped, Isolated, IsolatedWhole, SameBelow, TwoInputs, TwoWhole}
 use Rattle.labsys.specs.Least.{NarrowedTo}
-use Rattle.labsys.specs.Lineage.{PrintedByAny}
+use Rattle.labsys.specs.Lineage.{AnsweredYes, PrintedByAny}
 use Rattle.labsys.specs.LineageText.{SaysLineage}
 
 -- the world was accepted, and P holds of it, of its script, and of what the output and the trail got
@@ -45,6 +46,8 @@ pub record Plays (status : Status) (old now : Reports) : Type 0 where
   pub printed_by_any : OnAccepted old now (λ a script out trail. PrintedByAny (session_of a script) out trail)
   -- The trail is of records in which permitted sets grow by exec alone.
   pub dropped : OnAccepted old now (λ a script out trail. Dropped (session_of a script) trail)
+  -- Of the trail of a whole run, where it is no longer than an input may be, `lineage` has to write `yes` and the number of the records of the run.
+  pub answered_yes : OnWhole status (OnAccepted old now (λ a script out trail. length trail ≤ MAX_INPUT → AnsweredYes (session_of a script) trail))
 
 -- a run of `view` of a label's word, with this status
 pub record Views (word : List ℕ) (status : Status) (old now : Reports) : Type 0 where

@@ -1,7 +1,8 @@
 -- What is promised of a run of programs, by the bytes of its ends.
-use Rattle.std.specs.Prelude.{◌≡◌, ℕ, false, List, take}
+use Rattle.std.specs.Prelude.{◌≡◌, ℕ, ◌≤◌, false, List, length, take}
 use Rattle.std.specs.List.{list_any}
 use Rattle.lab_lattice.specs.Label.{Label}
+use Rattle.kern_model.specs.declared.limits.TheConstants.{MAX_INPUT}
 use Rattle.kern_model.specs.Boot.{boot}
 use Rattle.kern_model.specs.Isolation.{part}
 use Rattle.kern_model.specs.Prefixes.{IsPrefix, Agree}
@@ -13,7 +14,7 @@ use Rattle.sched_progs.specs.Laws.{before_crossing, item_crosses, loop_alone, lo
 use Rattle.sched_progs.specs.Turns.{LoopItem}
 use Rattle.labsys.specs.declared.status.Status.{Status}
 use Rattle.labsys.specs.Clauses.{Reports, WhereReported, OnWhole, Written, Covered, RepliesFirst, Printed, Dropped}
-use Rattle.labsys.specs.Lineage.{PrintedByAny}
+use Rattle.labsys.specs.Lineage.{AnsweredYes, PrintedByAny}
 use Rattle.labsys.specs.Scheduling.{HasSchedule, chosen, loop_of, programs_of, session_by}
 
 -- a text has a world and a schedule, and P holds of them
@@ -91,3 +92,5 @@ pub record Schedules (status : Status) (old now : Reports) : Type 0 where
   pub printed_by_any : OnScheduled old now (λ a s out trail. PrintedByAny (session_by a s) out trail)
   -- The trail is of records in which permitted sets grow by exec alone.
   pub dropped : OnScheduled old now (λ a s out trail. Dropped (session_by a s) trail)
+  -- Of the trail of a whole run, where it is no longer than an input may be, `lineage` has to write `yes` and the number of the records of the run.
+  pub answered_yes : OnWhole status (OnScheduled old now (λ a s out trail. length trail ≤ MAX_INPUT → AnsweredYes (session_by a s) trail))

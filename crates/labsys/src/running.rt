@@ -66,9 +66,9 @@ pub fn run<S: Source, K: Sink, T: Sink>(
     // Which of these three it is depends on the source's bytes alone, and of `gen` and `drill` not on them.
     ensures ending { IfSome (command_of words.now) (λ command. OnWhole result ((text : List ℕ) → if_used (reads_source command) (S.view source.old).left ≡ Some text → result ≡ (due command text).status)) }
 
-    // What `play` promises besides: records before replies, isolation, and the capability sets at the end.
+    // What `play` promises besides: records before replies, isolation, the capability sets at the end, and a trail of which `lineage` says `yes`.
     ensures play { command_of words.now ≡ Some Command.Play → Plays result (reports_of_ends (S.view source.old) (K.view out.old) (T.view trail.old)) (reports_of_ends (S.view source.new) (K.view out.new) (T.view trail.new)) }
-    // What `sched` promises besides: records before replies, isolation of programs that react, and the capability sets at the end.
+    // What `sched` promises besides: records before replies, isolation of programs that react, the capability sets at the end, and a trail of which `lineage` says `yes`.
     ensures sched { command_of words.now ≡ Some Command.Sched → Schedules result (reports_of_ends (S.view source.old) (K.view out.old) (T.view trail.old)) (reports_of_ends (S.view source.new) (K.view out.new) (T.view trail.new)) }
     // What `view` promises besides: it writes what it writes of the part below its label alone.
     ensures view { (word : List ℕ) → command_of words.now ≡ Some (Command.View word) → Views word result (reports_of_ends (S.view source.old) (K.view out.old) (T.view trail.old)) (reports_of_ends (S.view source.new) (K.view out.new) (T.view trail.new)) }
