@@ -1,5 +1,5 @@
 // The capabilities, their numbers and their names.
-ghost use Rattle.std.specs.Prelude.{◌≡◌, ◌↔◌, ◌<◌, IsTrue, MatchOption, Some};
+ghost use Rattle.std.specs.Prelude.{◌≡◌, ◌↔◌, ◌<◌, ◌≤◌, IsTrue, MatchOption, Some};
 ghost use Rattle.cap_bits.specs.Cap.{cap_number, cap_name, is_name_of, cap_named};
 
 /// A capability of the withdrawn draft IEEE P1003.1e. Each has a number, which is its place in this
@@ -44,8 +44,11 @@ pub enum Cap {
     AuditWrite,
 }
 
+/// How many capabilities there are.
+pub const CAP_COUNT: usize = 18;
+
 // Each capability once, in the order of their numbers.
-const ALL: [Cap; 18] = [
+const ALL: [Cap; CAP_COUNT] = [
     Cap::Chown,
     Cap::DacExecute,
     Cap::DacReadSearch,
@@ -67,20 +70,20 @@ const ALL: [Cap; 18] = [
 ];
 
 impl Cap {
-    /// Its number, from 0 to 17.
+    /// Its number, from 0 on.
     pub fn number(self) -> u8
         ensures number { result ≡ cap_number self }
-        ensures few { result < 18 }
+        ensures few { result < CAP_COUNT }
     {
         self as u8
     }
 
     /// The capability with this number, if there is one.
     pub fn from_number(n: u8) -> Option<Cap>
-        ensures number { MatchOption result (17 < n) (λ cap. cap_number cap ≡ n) }
+        ensures number { MatchOption result (CAP_COUNT ≤ n) (λ cap. cap_number cap ≡ n) }
         ensures back { (cap : Cap) → cap_number cap ≡ n → result ≡ Some cap }
     {
-        if n < 18 { Some(ALL[n as usize]) } else { None }
+        ALL.get(usize::from(n)).copied()
     }
 
     /// Its name, in lower case.

@@ -6,7 +6,7 @@ mod file_caps;
 mod set;
 mod state;
 
-pub use cap::Cap;
+pub use cap::{CAP_COUNT, Cap};
 pub use file_caps::FileCaps;
 pub use set::CapSet;
 pub use state::{CapState, Flag};

@@ -4,10 +4,11 @@ ghost use Rattle.std.specs.Cmp.{partial_equiv_from_equiv};
 ghost use Rattle.cap_bits.specs.CapSet.{no_caps, all_of_caps, has, with_cap, without_cap, union_of, meet_of, minus_of, is_within, same_sets};
 ghost use Rattle.cap_bits.specs.Laws.{same_sets-equiv};
 
-use crate::Cap;
+use crate::{CAP_COUNT, Cap};
 use std::marker::Model;
 
-const ALL_BITS: u32 = 0x3_ffff;
+// A bit for each capability.
+const ALL_BITS: u32 = (1 << CAP_COUNT) - 1;
 
 /// A set of capabilities.
 #[derive(Clone, Copy, Debug)]
@@ -19,6 +20,7 @@ pub struct CapSet {
 impl Model for CapSet {
     ghost use Rattle.std.specs.Prelude.{◌<◌, ◌^◌};
     ghost use Rattle.std.specs.FinSet as set;
+    ghost use Rattle.cap_bits.specs.declared.cap.TheConstants.{CAP_COUNT};
     ghost use Rattle.cap_bits.specs.Cap.{cap_cmp, cap_code};
     ghost use Rattle.cap_bits.specs.Word.{caps_of_word, word_of_caps};
     ghost use Rattle.cap_bits.specs.Laws.{word_back};
@@ -29,7 +31,7 @@ impl Model for CapSet {
 
     ghost view = { λ s. caps_of_word s.word };
 
-    ghost invariant = { λ s. s.word < 2 ^ 18 };
+    ghost invariant = { λ s. s.word < 2 ^ CAP_COUNT };
 
     ghost inverse = { λ caps. record { word = word_of_caps caps } };
 
@@ -44,7 +46,7 @@ impl CapSet {
         CapSet { word: 0 }
     }
 
-    /// The set of all 18.
+    /// The set of all capabilities.
     pub fn all() -> CapSet
         ensures { result ≡ all_of_caps }
     {

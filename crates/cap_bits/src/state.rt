@@ -60,7 +60,7 @@ impl CapState {
         }
     }
 
-    /// Puts the capability in the flag's set, or takes it out, and changes nothing else.
+    /// Puts the capability in the flag's set, or takes it out, and changes nothing else. The program does not call it.
     pub fn set_flag(&mut self, cap: Cap, flag: Flag, raised: bool)
         ensures { self.new ≡ with_flag self.old cap flag raised }
     {

@@ -10,7 +10,7 @@ ghost use Rattle.cap_clause.specs.Parsed.{parse_caps, parse_set};
 ghost use Rattle.cap_clause.specs.Written.{caps_of, list_text, set_text, group_of, flag_byte, group_text, firsts_of, caps_text};
 
 use crate::NoMemory;
-use cap_bits::{Cap, CapSet, CapState, Flag};
+use cap_bits::{CAP_COUNT, Cap, CapSet, CapState, Flag};
 use std::alloc::Global;
 
 // For how many bytes the text of a state has room from the start.
@@ -130,7 +130,7 @@ fn first_of(caps: &CapSet) -> Option<Cap>
     if *caps == CapSet::none() {
         return None;
     }
-    (0..18)
+    (0..CAP_COUNT as u8)
         .filter_map(Cap::from_number)
         .find(|cap| caps.has(*cap))
 }
