@@ -174,7 +174,8 @@ impl FdTable {
         None
     }
 
-    /// Opens an object under the next number of a label, at the lowest free descriptor of a process, which it returns.
+    /// Opens an object under the next number of a label, at the lowest free descriptor of a process, which it returns. The
+    /// program asks [`open_refusal`](FdTable::open_refusal), and calls [`open_next`](FdTable::open_next).
     ///
     /// # Errors
     ///
@@ -196,12 +197,23 @@ impl FdTable {
         if let Some(refusal) = self.open_refusal(who, label, 1) {
             return Err(refusal);
         }
+        Ok(self.open_next(who, label, id, how)?)
+    }
+
+    /// The same for a caller who knows that it is not refused.
+    pub fn open_next(&mut self, who: &Pid, label: &Label, id: Oid, how: How) -> Result<Fd, NoMemory>
+        requires there { IsThere self.old.processes who.now }
+        requires room { open_refusal self.old who.now label.now 1 ≡ None }
+        ensures fd { IfOk result (λ fd. fd ≡ lowest_free (fds_at self.old who.now)) }
+        ensures opened { OnOk result (self.new ≡ with_opened self.old who.now label.now (opened_for id how)) }
+        ensures err { OnErr result (self.new ≡ self.old) }
+    {
         let fd = self.processes.lowest(who);
         let did = self.next(label);
         self.descriptions.insert(&did, id, how)?;
         if let Err(e) = self.numbers.set(*label, did.n) {
             self.descriptions.release(&did);
-            return Err(e.into());
+            return Err(e);
         }
         self.processes.set(who, fd, did);
         Ok(fd)

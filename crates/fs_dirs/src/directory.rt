@@ -55,7 +55,7 @@ impl Directory {
         self.entries.len()
     }
 
-    /// The object to which a name leads, if it is there. Each comparison of names, or of their heads, is counted.
+    /// The object to which a name leads, if it is there. Comparisons of names, or of their heads, count in `steps`.
     pub fn look_counted<L: Ledger>(&self, name: &Name, steps: &mut Steps<L>) -> Option<Oid>
         ensures found { result ≡ map.get self.now name.now }
         ensures counted { TakesFewSteps (map.len self.now) steps.old steps.new }
@@ -123,7 +123,7 @@ impl Directory {
 }
 
 // Where a name is among sorted entries, or else where it belongs. From the first head on that is that of the name, the names
-// themselves are compared, unless the name is short. Each comparison is counted.
+// themselves are compared, unless the name is short. Each comparison counts in `steps`.
 fn search<L: Ledger>(
     entries: &Tiers<Slot>,
     name: &Name,

@@ -131,7 +131,7 @@ impl Dirs {
         self.by_label.get(&dir.label)?.get(dir.n)
     }
 
-    /// The object to which a name in a directory leads, if it is there. Each comparison of names is counted.
+    /// The object to which a name in a directory leads, if it is there. Comparisons of names count in `steps`.
     pub fn look_counted<L: Ledger>(
         &self,
         dir: &Oid,

@@ -70,7 +70,7 @@ impl Entries {
         self.total
     }
 
-    /// Where an entry leads, if it is there. Each comparison of names is counted.
+    /// Where an entry leads, if it is there. Comparisons of names count in `steps`.
     pub fn look_counted<L: Ledger>(
         &self,
         dir: &Oid,

@@ -186,7 +186,8 @@ impl Tree {
         &self.nodes
     }
 
-    /// The object to which a name in a directory leads, if it is there. Each comparison of names is counted.
+    /// The object to which a name in a directory leads, if it is there. The comparisons of names and of their heads count in
+    /// `steps`. The clause bounds this count; no clause says that it leaves out no comparison.
     pub fn look_counted<L: Ledger>(
         &self,
         dir: &Oid,
@@ -278,7 +279,8 @@ impl Tree {
         self.entries.name_count(dir) == 0
     }
 
-    /// Makes an object under the next number of its label, and returns the number. No entry leads to it.
+    /// Makes an object under the next number of its label, and returns the number. It makes no entry. The program asks whether a
+    /// number is left, and calls [`create_next`](Tree::create_next).
     pub fn create(&mut self, label: Label, attr: Attr, body: Body) -> Result<Oid, NodeError>
         ensures id { IfOk result (λ id. id ≡ next_in self.old.nodes.table label) }
         ensures made { OnOk result (self.new.nodes.table ≡ with_new self.old.nodes.table label (object_with label attr body)) }
@@ -287,6 +289,17 @@ impl Tree {
         ensures entries { self.new.entries ≡ self.old.entries }
     {
         self.nodes.create(label, attr, body)
+    }
+
+    /// The same for a caller who knows that a number of the label is left.
+    pub fn create_next(&mut self, label: Label, attr: Attr, body: Body) -> Result<Oid, NoMemory>
+        requires { last_drawn self.old.nodes.table.numbers label < MAX_OBJECTS }
+        ensures id { IfOk result (λ id. id ≡ next_in self.old.nodes.table label) }
+        ensures made { OnOk result (self.new.nodes.table ≡ with_new self.old.nodes.table label (object_with label attr body)) }
+        ensures err { OnErr result (self.new.nodes.table ≡ self.old.nodes.table) }
+        ensures entries { self.new.entries ≡ self.old.entries }
+    {
+        self.nodes.create_next(label, attr, body)
     }
 
     /// Gives an object other attributes. It takes no memory.

@@ -89,10 +89,6 @@ ForBytes objects id P = (o : Object) → map.get objects id ≡ Some o → P o.b
 abbrev pub copy_len : List ℕ → List ℕ → ℕ
 copy_len bytes buf = min (length bytes) (length buf)
 
--- the next number of a label is given exactly where one is left
-abbrev pub IsNextIn : FinMap label_cmp ℕ → Label → Option Oid → Type 0
-IsNextIn numbers l next = MatchOption next (MAX_OBJECTS ≤ last_drawn numbers l) (λ id. (id ≡ record { label = l; n = last_drawn numbers l + 1 }) × (last_drawn numbers l < MAX_OBJECTS))
-
 -- written from an offset on, the bytes would make a file too big
 abbrev pub IsTooBig : List ℕ → ℕ → List ℕ → Type 0
 IsTooBig old at bytes = (at ≤ length old) × (MAX_FILE_BYTES < at + length bytes)

@@ -1,9 +1,9 @@
 // Where objects are in the slab, and which numbers are drawn.
-ghost use Rattle.std.specs.Prelude.{◌≡◌, ◌+◌, ◌<◌, Some, OnErr, OnOk};
+ghost use Rattle.std.specs.Prelude.{◌≡◌, ◌+◌, ◌<◌, Some, OnErr, OnOk, nat_lt};
 ghost use Rattle.kern_model.specs.State.{last_drawn};
 ghost use Rattle.kern_model.specs.declared.limits.TheConstants.{MAX_OBJECTS};
 ghost use Rattle.kern_model.specs.Valid.{IsThere};
-ghost use Rattle.fs_nodes.specs.Nodes.{IsNextIn, with_key};
+ghost use Rattle.fs_nodes.specs.Nodes.{with_key};
 ghost use Rattle.std.specs.FinMap as map;
 
 use crate::object_keys::ObjectKeys;
@@ -81,16 +81,20 @@ impl Index {
         }
     }
 
-    /// The number of the next object at a label, or `None` where all are drawn.
-    pub fn next(&self, label: &Label) -> Option<Oid>
-        ensures { IsNextIn self.now.numbers label.now result }
+    /// Whether a number of a label is left.
+    pub fn has_next(&self, label: &Label) -> bool
+        ensures { result ≡ nat_lt (last_drawn self.now.numbers label.now) MAX_OBJECTS }
     {
-        let last = self.last(label);
-        if last as usize >= MAX_OBJECTS {
-            return None;
-        }
-        let n = last + 1;
-        Some(Oid { label: *label, n })
+        usize::from(self.last(label)) < MAX_OBJECTS
+    }
+
+    /// The number of the next object at a label of which a number is left.
+    pub fn next(&self, label: &Label) -> Oid
+        requires { last_drawn self.now.numbers label.now < MAX_OBJECTS }
+        ensures { result ≡ record { label = label.now; n = last_drawn self.now.numbers label.now + 1 } }
+    {
+        let n = self.last(label) + 1;
+        Oid { label: *label, n }
     }
 
     /// Enters a new object under the next number, which is the last one drawn from then on.

@@ -150,7 +150,7 @@ impl Nodes {
     pub fn can_create(&self, label: &Label) -> bool
         ensures { result ≡ nat_lt (last_drawn self.now.table.numbers label.now) MAX_OBJECTS }
     {
-        self.index.next(label).is_some()
+        self.index.has_next(label)
     }
 
     /// Makes an object under the next number of its label, and returns the number.
@@ -160,8 +160,21 @@ impl Nodes {
         ensures full { (result ≡ Err NodeError.Full) ↔ (MAX_OBJECTS ≤ last_drawn self.old.table.numbers label) }
         ensures err { OnErr result (self.new.table ≡ self.old.table) }
     {
+        if !self.can_create(&label) {
+            return Err(NodeError::Full);
+        }
+        Ok(self.create_next(label, attr, body)?)
+    }
+
+    /// The same for a caller who knows that a number of the label is left.
+    pub fn create_next(&mut self, label: Label, attr: Attr, body: Body) -> Result<Oid, NoMemory>
+        requires { last_drawn self.old.table.numbers label < MAX_OBJECTS }
+        ensures id { IfOk result (λ id. id ≡ next_in self.old.table label) }
+        ensures made { OnOk result (self.new.table ≡ with_new self.old.table label (object_with label attr body)) }
+        ensures err { OnErr result (self.new.table ≡ self.old.table) }
+    {
         let object = object_from(self.alloc, label, attr, body);
-        let id = self.index.next(&object.label).ok_or(NodeError::Full)?;
+        let id = self.index.next(&object.label);
         self.slots.reserve(1)?;
         let key = self.slots.vacant_key();
         self.index.enter(&id, key)?;

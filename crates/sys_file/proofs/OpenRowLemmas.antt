@@ -29,13 +29,8 @@ use Rattle.sys_lookup.specs.PlaysRow.{PlaysRow}
 use Rattle.sys_lookup.specs.Walks.{IsEntry, IsFound, IsLedTo, found_of}
 use Rattle.sys_lookup.proofs.PlayLemmas.{step_called, then_plays, stops_row, item_plays, item_stops_row}
 use Rattle.sys_file.specs.declared.opening.OpenRequest.{OpenRequest}
-use Rattle.sys_file.specs.Opening.{CanBeEmptied, EmptiesFiles, opens_file, opens_object, request_row}
+use Rattle.sys_file.specs.Opening.{CanBeEmptied, EmptiesFiles, object_found, opens_file, opens_object, request_row}
 use Rattle.sys_file.proofs.OpenLemmas.{can_be_emptied}
-
--- the object that the walk found, if it found one
-abbrev pub object_found : walked.Found → Option Oid
-object_found (found.Start id) = Some id
-object_found (found.Entry dir name object) = object
 
 -- the path leads to it
 led_by : (s : State) (start : Oid) (w : walked.Found) (id : Oid) → IsFound s start w → object_found w ≡ Some id → IsLedTo s start id

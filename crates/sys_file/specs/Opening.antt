@@ -10,6 +10,8 @@ use Rattle.kern_model.specs.OpenRows.{open_row, opens_new, opens_present}
 use Rattle.kern_model.specs.Row.{Row}
 use Rattle.kern_model.specs.State.{State, object_at, process_at}
 use Rattle.fs_nodes.specs.Nodes.{IsFile}
+use Rattle.sys_lookup.specs.declared.found.Found.{Found}
+use Rattle.sys_lookup.specs.declared.found.Found.TheVariants as found
 use Rattle.sys_file.specs.declared.opening.OpenRequest.{OpenRequest}
 
 -- the row of `open` that a process calls with what is asked for
@@ -23,6 +25,11 @@ opens_object s who flags id emptied = opens_present s who (process_at s who) fla
 -- a process makes the file at a spot that it asks for, and opens it
 abbrev pub opens_file : State → Pid → OpenRequest → Spot → Row
 opens_file s who request spot = opens_new s who (process_at s who) request.flags (unwrap_or request.mode 0) spot.0 spot.1
+
+-- the object that a walk found, if it found one
+abbrev pub object_found : Found → Option Oid
+object_found (found.Start id) = Some id
+object_found (found.Entry dir name object) = object
 
 -- only a file is emptied
 abbrev pub EmptiesFiles : State → Oid → Option Attr → Type 0

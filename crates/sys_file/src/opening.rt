@@ -1,5 +1,5 @@
 // The call `open`.
-ghost use Rattle.std.specs.Prelude.{◌≡◌, ◌&&◌, [], None, Some, IfOk, IsSome, OnOk, false, true};
+ghost use Rattle.std.specs.Prelude.{◌≡◌, ◌&&◌, [], None, Some, IfOk, IsSome, MatchResult, OnOk, false, true};
 ghost use Rattle.std.specs.FinMap as map;
 ghost use Rattle.kern_model.specs.Arguments.{are_names};
 ghost use Rattle.kern_model.specs.Descriptors.{lowest_free};
@@ -13,15 +13,14 @@ ghost use Rattle.kern_model.specs.declared.numbers.Oid.{Oid as Number};
 ghost use Rattle.kern_model.specs.declared.objects.Object.{Object};
 ghost use Rattle.chk_rules.specs.CheckLog.{CheckLog};
 ghost use Rattle.chk_rules.specs.RowSteps.{GoesOn};
-ghost use Rattle.fd_table.specs.Files.{is_no_memory};
 ghost use Rattle.fs_nodes.specs.Nodes.{IsFile};
 ghost use Rattle.sys_lookup.specs.PlaysRow.{PlaysRow};
 ghost use Rattle.sys_lookup.specs.Shared.{metadata_of};
 ghost use Rattle.sys_lookup.specs.StepOn.{StepOn};
-ghost use Rattle.sys_file.specs.Opening.{CanBeEmptied, EmptiesFiles, opens_file, opens_object, request_row};
+ghost use Rattle.sys_file.specs.Opening.{CanBeEmptied, EmptiesFiles, object_found, opens_file, opens_object, request_row};
 
 use chk_rules::{Checks, Stop, refuse_if};
-use fd_table::{FdError, How};
+use fd_table::How;
 use kern_model::{
     Answer, Attr, Body, ByteList, Errno, Fd, Kind, Mode, NoMemory, Oid, OpenFlags, Path, Pid, Place,
 };
@@ -53,24 +52,28 @@ pub fn open(
     let _names = path.components();
     let caller = Caller::new(shared, who);
     caller.may_open(1)?;
-    match caller.walk(checks, PathArgument::First, path)? {
-        Found::Start(id) => {
+    let found = caller.walk(checks, PathArgument::First, path)?;
+    match object_or_spot(found) {
+        Ok(id) => {
             let place = PathArgument::First.last_place(path);
             let emptied = may_open(&caller, checks, flags, &id, place)?;
             open_present(shared, who, &id, flags, emptied)
         }
-        Found::Entry(dir, name, object) => match object {
-            Some(id) => {
-                let place = PathArgument::First.last_place(path);
-                let emptied = may_open(&caller, checks, flags, &id, place)?;
-                open_present(shared, who, &id, flags, emptied)
-            }
-            None => {
-                let place = PathArgument::First.dir_place(path);
-                may_make(&caller, checks, flags, &dir, place)?;
-                open_new(alloc, shared, who, &(dir, name), opening)
-            }
-        },
+        Err(spot) => {
+            let place = PathArgument::First.dir_place(path);
+            may_make(&caller, checks, flags, &spot.0, place)?;
+            open_new(alloc, shared, who, &spot, opening)
+        }
+    }
+}
+
+// The object that was found, or else the directory and the name that leads to none.
+fn object_or_spot(found: Found<'_>) -> Result<Oid, Spot<'_>>
+    ensures { MatchResult result (λ id. object_found found.entry ≡ Some id) (λ spot. found.entry ≡ Found.Entry spot.0 spot.1 None) }
+{
+    match found {
+        Found::Start(id) | Found::Entry(_, _, Some(id)) => Ok(id),
+        Found::Entry(dir, name, None) => Err((dir, name)),
     }
 }
 
@@ -223,20 +226,7 @@ pub fn describe(shared: &mut Shared, who: &Pid, id: &Oid, flags: OpenFlags) -> R
 {
     let label = Caller::new(shared, who).label();
     shared.fds.reserve(who)?;
-    match shared.fds.open_at_lowest(who, &label, *id, how(flags)) {
-        Ok(fd) => Ok(fd),
-        Err(e) => Err(no_memory(e)),
-    }
-}
-
-// The want of memory that an error is.
-fn no_memory(e: FdError) -> NoMemory
-    requires { is_no_memory e ≡ true }
-{
-    match e {
-        FdError::NoMemory(e) => e,
-        _ => unreachable!(),
-    }
+    shared.fds.open_next(who, &label, *id, how(flags))
 }
 
 // What a description is open for.

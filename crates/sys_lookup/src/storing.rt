@@ -9,7 +9,6 @@ ghost use Rattle.fs_dirs.specs.Tree.{MayBeAdded};
 
 use crate::last_name::LastName;
 use crate::shared::Shared;
-use fs_nodes::NodeError;
 use kern_model::{Attr, Body, NoMemory, Oid};
 use lab_lattice::Label;
 
@@ -27,11 +26,7 @@ impl Shared {
         ensures id { IfOk result (λ id. id ≡ next_object self.old label) }
         ensures drawn { OnOk result (self.new ≡ apply_changes self.old (object_addition self.old label (object_with label attr body))) }
     {
-        match self.tree.create(label, attr, body) {
-            Ok(id) => Ok(id),
-            Err(NodeError::NoMemory(e)) => Err(e),
-            Err(NodeError::Full) => unreachable!(),
-        }
+        self.tree.create_next(label, attr, body)
     }
 
     /// Has a new name in a directory that is not removed lead to an object.

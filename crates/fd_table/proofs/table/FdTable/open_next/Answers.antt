@@ -2,7 +2,7 @@ use Rattle.std.specs.Prelude.{◌≡◌, Some}
 use Rattle.std.specs.FinMap as map
 use Rattle.fd_table.specs.Descriptions.{made_for}
 use Rattle.fd_table.proofs.Openings.{held_opened, held_undone, made_there, table_opened, table_undone}
-use Rattle.fd_table.proofs.table.FdTable.open_at_lowest.Goals as goal
+use Rattle.fd_table.proofs.table.FdTable.open_next.Goals as goal
 
 pub release-requires : goal.release-requires
 release-requires c = record {
@@ -30,9 +30,9 @@ returns-in-Err-clause-err c =
 pub invariant_of-self-2 : goal.invariant_of-self-2
 invariant_of-self-2 c = held_opened c.self.inside.processes c.self.inside.descriptions c.self.inside.numbers c.self.invariant c.args.self.now c.self.view_is c.args.label.now c.next-did.result c.next-did.ensures c.args.id c.args.how
     c.insert.new.self c.in_ok-insert.ensures.ok
-    c.args.who.now c.lowest-fd.result c.set-2.new.self c.set-2.ensures c.set.new.self c.in_default-set.ensures.ok c.requires c.lowest-fd.ensures.free c.lowest-fd.ensures.below
+    c.args.who.now c.lowest-fd.result c.set-2.new.self c.set-2.ensures c.set.new.self c.in_default.ensures.ok c.requires.there c.lowest-fd.ensures.free c.lowest-fd.ensures.below
 
 pub returns-clause-opened : goal.returns-clause-opened
 returns-clause-opened c = table_opened c.self.inside.processes c.self.inside.descriptions c.self.inside.numbers c.self.invariant c.args.self.now c.self.view_is c.args.label.now c.next-did.result c.next-did.ensures c.args.id c.args.how
     c.insert.new.self c.in_ok-insert.ensures.ok
-    c.args.who.now c.lowest-fd.result c.set-2.new.self c.set-2.ensures c.set.new.self c.in_default-set.ensures.ok c.lowest-fd.ensures.lowest
+    c.args.who.now c.lowest-fd.result c.set-2.new.self c.set-2.ensures c.set.new.self c.in_default.ensures.ok c.lowest-fd.ensures.lowest

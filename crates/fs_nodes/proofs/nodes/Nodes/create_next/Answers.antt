@@ -1,4 +1,4 @@
-use Rattle.std.specs.Prelude.{◌≡◌, ℕ, ◌+◌, Option, Some, MatchOption, refl}
+use Rattle.std.specs.Prelude.{◌≡◌, ℕ, ◌+◌, Some, refl}
 use Rattle.std.specs.FinMap as map
 use Rattle.std.specs.FinMap.{FinMap}
 use Rattle.std.proofs.Common.{ap, sym, ◌∙◌, subst}
@@ -10,7 +10,7 @@ use Rattle.kern_model.specs.declared.objects.Object.{Object}
 use Rattle.kern_model.specs.Keys.{oid_cmp}
 use Rattle.fs_nodes.specs.Nodes.{NodeKeys, NodeSlots, NodeTable, IsPlaced, objects_in, with_new}
 use Rattle.fs_nodes.proofs.Made.{same_objects, placed_reserved, objects_made, placed_made, where_err}
-use Rattle.fs_nodes.proofs.nodes.Nodes.create.Goals as goal
+use Rattle.fs_nodes.proofs.nodes.Nodes.create_next.Goals as goal
 
 reserved : (slots new : Slab Object) (keys : FinMap oid_cmp ℕ) (numbers : FinMap label_cmp ℕ) → new ≡ record slots { capacity = new.capacity } → IsPlaced slots keys numbers → IsPlaced new keys numbers
 reserved slots new keys numbers same placed = subst (λ (s : Slab Object). IsPlaced s keys numbers) (sym same) (placed_reserved slots new.capacity keys numbers placed)
@@ -34,7 +34,7 @@ pub invariant_of-self : goal.invariant_of-self
 invariant_of-self c = reserved c.self.inside.slots c.reserve.new.self c.self.inside.index.keys c.self.inside.index.numbers c.reserve.ensures.rest_kept c.self.invariant
 
 pub returns-in_err-reserve-clause-err : goal.returns-in_err-reserve-clause-err
-returns-in_err-reserve-clause-err c = where_err c.from_residual-in_err-reserve.result (same_table c.self.inside.slots c.reserve.new.self c.self.inside.index.keys c.self.inside.index.numbers c.args.self.now c.reserve.ensures.rest_kept c.self.view_is)
+returns-in_err-reserve-clause-err c = where_err c.from_residual.result (same_table c.self.inside.slots c.reserve.new.self c.self.inside.index.keys c.self.inside.index.numbers c.args.self.now c.reserve.ensures.rest_kept c.self.view_is)
 
 pub invariant_of-self-in_err-enter : goal.invariant_of-self-in_err-enter
 invariant_of-self-in_err-enter c =
@@ -46,29 +46,23 @@ returns-in_err-enter-clause-err c = where_err c.from_residual-in_err-enter.resul
     (ap (λ (k : NodeKeys). record { objects = objects_in c.reserve.new.self k.keys; numbers = k.numbers }) c.in_err-enter.ensures.err
     ∙ same_table c.self.inside.slots c.reserve.new.self c.self.inside.index.keys c.self.inside.index.numbers c.args.self.now c.reserve.ensures.rest_kept c.self.view_is)
 
--- what holds of the value of an option that has one
-some_match : {X : Type 0} (P : Type 0) (Q : X → Type 0) (o : Option X) (x : X) → o ≡ Some x → MatchOption o P Q → Q x
-some_match P Q o x e h = subst (λ o. MatchOption o P Q) e h
-
 -- the number that is drawn next
 drawn_next : (numbers : FinMap label_cmp ℕ) (label : Label) (id : Oid) → id ≡ record { label = label; n = last_drawn numbers label + 1 } → id.n ≡ last_drawn numbers id.label + 1
 drawn_next numbers label id is = subst (λ (i : Oid). i.n ≡ last_drawn numbers i.label + 1) (sym is) refl
 
 pub invariant_of-self-2 : goal.invariant_of-self-2
 invariant_of-self-2 c =
-    let id = some_match _ _ c.next.result c.in_ok-id.id c.in_ok-id.ensures.ok_part c.next.ensures in
     let placed = reserved c.self.inside.slots c.reserve.new.self c.self.inside.index.keys c.self.inside.index.numbers c.reserve.ensures.rest_kept c.self.invariant in
     let updates = subst (λ (key : ℕ). Updates c.reserve.new.self c.insert_reserved.new.self key (Some c.object_from-object.result)) (c.insert_reserved.ensures.key ∙ sym c.vacant_key-key.ensures.value) c.insert_reserved.ensures.updates in
-    let made = placed_made placed c.in_ok-id.id (drawn_next c.self.inside.index.numbers c.object_from-object.result.label c.in_ok-id.id id.0) c.vacant_key-key.result c.object_from-object.result c.insert_reserved.new.self c.vacant_key-key.ensures.vacant updates c.insert_reserved.ensures.len in
+    let made = placed_made placed c.next-id.result (drawn_next c.self.inside.index.numbers c.object_from-object.result.label c.next-id.result c.next-id.ensures) c.vacant_key-key.result c.object_from-object.result c.insert_reserved.new.self c.vacant_key-key.ensures.vacant updates c.insert_reserved.ensures.len in
     subst (λ (k : NodeKeys). IsPlaced c.insert_reserved.new.self k.keys k.numbers) (sym c.in_ok-enter.ensures.ok) made
 
 pub returns-clause-made : goal.returns-clause-made
 returns-clause-made c =
-    let id = some_match _ _ c.next.result c.in_ok-id.id c.in_ok-id.ensures.ok_part c.next.ensures in
     let placed = reserved c.self.inside.slots c.reserve.new.self c.self.inside.index.keys c.self.inside.index.numbers c.reserve.ensures.rest_kept c.self.invariant in
     let updates = subst (λ (key : ℕ). Updates c.reserve.new.self c.insert_reserved.new.self key (Some c.object_from-object.result)) (c.insert_reserved.ensures.key ∙ sym c.vacant_key-key.ensures.value) c.insert_reserved.ensures.updates in
-    let objects = objects_made placed c.in_ok-id.id (drawn_next c.self.inside.index.numbers c.object_from-object.result.label c.in_ok-id.id id.0) c.vacant_key-key.result c.object_from-object.result c.insert_reserved.new.self c.vacant_key-key.ensures.vacant updates in
+    let objects = objects_made placed c.next-id.result (drawn_next c.self.inside.index.numbers c.object_from-object.result.label c.next-id.result c.next-id.ensures) c.vacant_key-key.result c.object_from-object.result c.insert_reserved.new.self c.vacant_key-key.ensures.vacant updates in
     let table = same_table c.self.inside.slots c.reserve.new.self c.self.inside.index.keys c.self.inside.index.numbers c.args.self.now c.reserve.ensures.rest_kept c.self.view_is in
     let keys = ap (λ (k : NodeKeys). objects_in c.insert_reserved.new.self k.keys) c.in_ok-enter.ensures.ok ∙ objects in
-    new_table c.self.inside.index.numbers (objects_in c.reserve.new.self c.self.inside.index.keys) c.args.self.now.table c.in_ok-id.id c.object_from-object.result id.0 table keys (ap (λ (k : NodeKeys). k.numbers) c.in_ok-enter.ensures.ok)
+    new_table c.self.inside.index.numbers (objects_in c.reserve.new.self c.self.inside.index.keys) c.args.self.now.table c.next-id.result c.object_from-object.result c.next-id.ensures table keys (ap (λ (k : NodeKeys). k.numbers) c.in_ok-enter.ensures.ok)
     ∙ ap (λ (o : Object). with_new c.args.self.now.table o.label o) c.object_from-object.ensures
