@@ -81,6 +81,11 @@ impl<T: Drop> List<T> {
         self.kept.shrink_to_fit();
     }
 
+    /// The allocator of its items.
+    pub(crate) fn allocator(&self) -> Global {
+        *self.kept.allocator()
+    }
+
     /// Removes all items.
     pub fn clear(&mut self)
         ensures { self.new ≡ [] }
@@ -136,7 +141,7 @@ impl<T: Copy + Drop> List<T> {
     pub fn copy(&self) -> Result<Self, NoMemory>
         ensures { IfOk result (λ list. list ≡ self.now) }
     {
-        List::from_slice(*self.kept.allocator(), self.items())
+        List::from_slice(self.allocator(), self.items())
     }
 }
 

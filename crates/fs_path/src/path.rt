@@ -18,6 +18,19 @@ const MAX_NAMES: usize = 32;
 /// Names of a path, in order.
 pub type NameList = List<Name>;
 
+impl List<Name> {
+    /// Makes the list a copy of these names. It keeps its memory.
+    pub fn copy_from(&mut self, names: &[Name]) -> Result<(), NoMemory>
+        ensures { OnOk result (self.new ≡ names.now) }
+    {
+        self.clear();
+        for name in names {
+            self.push(name.copy()?)?;
+        }
+        Ok(())
+    }
+}
+
 /// A path: where it starts, and the names from there on. It has at most 32 names. Written with one `/` between names, and
 /// one before them where it is absolute, it has at most 1,023 bytes.
 #[derive(Debug)]
@@ -182,15 +195,14 @@ impl Path {
         }
     }
 
-    /// The absolute path of one name.
-    pub fn in_root(alloc: Global, name: Name) -> Result<Path, NoMemory>
-        ensures { IfOk result (λ path. path ≡ record { absolute = true; names = name ∷ [] }) }
+    /// A copy of the path.
+    pub fn copy(&self) -> Result<Path, NoMemory>
+        ensures { IfOk result (λ path. path ≡ self.now) }
     {
-        let _bytes = name.bytes();
-        let mut names = List::new(alloc);
-        names.push(name)?;
+        let mut names = List::with_capacity(self.names.allocator(), self.components().len())?;
+        names.copy_from(self.components())?;
         Ok(Path {
-            absolute: true,
+            absolute: self.absolute,
             names,
         })
     }

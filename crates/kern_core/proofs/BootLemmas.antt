@@ -10,7 +10,7 @@ use Rattle.std.specs.declared.cmp.Ordering.TheVariants.{Less, Equal, Greater}
 use Rattle.std.proofs.lemmas.Bool.{and_parts}
 use Rattle.std.proofs.lemmas.List.{take_all, take_more}
 use Rattle.std.proofs.lemmas.List.Sums.{sum_by-cons}
-use Rattle.std.proofs.Common.{ap, sym, ◌∙◌, subst, arith, get_or, drop, take, ◌-◌, drop-cons, add-one, suc, append_assoc}
+use Rattle.std.proofs.Common.{ap, sym, ◌∙◌, subst, arith, get_or, take, ◌-◌, append_assoc}
 use Rattle.fs_path.specs.Name.{Name}
 use Rattle.lab_lattice.specs.Label.{Label, label_cmp}
 use Rattle.lab_lattice.proofs.Labels.{label_cmp_total, label_cmp_exact, dominates_itself}
@@ -206,10 +206,6 @@ all_can_start w is made ws loaded procs =
     let none : made.process_numbers ≡ map.empty = ap (λ (s : State). s.process_numbers) loaded ∙ objects_keep (nothing w.bound w.top) w.objects in
     subst (λ (m : FinMap label_cmp ℕ). CanStart m ws) (sym none) (subst (λ (xs : List WorldProc). CanStart map.empty xs) (sym procs) (all_can w is))
 
--- ---- one more of a list
-pub rest_from : {X : Type 0} (xs : List X) (i : ℕ) (x : X) → i < length xs → x ≡ get_or xs i x → drop i xs ≡ x ∷ drop (i + 1) xs
-rest_from xs i x h is = drop-cons xs i x h ∙ ap (λ y. y ∷ drop (suc i) xs) (sym is) ∙ ap (λ n. x ∷ drop n xs) (sym (add-one i))
-
 -- the first object of some has a number, where there is room for all
 pub first_numbered : (s : State) (o : WorldObject) (os : List WorldObject) → RoomForObjects s.object_numbers (o ∷ os) → last_drawn s.object_numbers o.label < MAX_OBJECTS
 first_numbered s o os room = first_room (λ (x : WorldObject). x.label) MAX_OBJECTS s.object_numbers o os room
@@ -217,17 +213,6 @@ first_numbered s o os room = first_room (λ (x : WorldObject). x.label) MAX_OBJE
 -- there is room for the others after it is made
 pub others_room : (s t : State) (o : WorldObject) (os : List WorldObject) → t ≡ boot_object s o → RoomForObjects s.object_numbers (o ∷ os) → RoomForObjects t.object_numbers os
 others_room s t o os booted room = subst (λ m. RoomForObjects m os) (sym (ap (λ u. u.object_numbers) booted ∙ object_draws s o)) (less_room (λ (x : WorldObject). x.label) MAX_OBJECTS s.object_numbers o os room)
-
--- the first object that is left has a number
-pub object_room : (s : State) (os : List WorldObject) (i : ℕ) (o : WorldObject) → i < length os → o ≡ get_or os i o → RoomForObjects s.object_numbers (drop i os) → last_drawn s.object_numbers o.label < MAX_OBJECTS
-object_room s os i o h is room = first_numbered s o (drop (i + 1) os) (subst (λ xs. RoomForObjects s.object_numbers xs) (rest_from os i o h is) room)
-
-module _ (s t : State) (os : List WorldObject) (i : ℕ) (o : WorldObject) (h : i < length os) (is : o ≡ get_or os i o) (booted : t ≡ boot_object s o) where
-  pub objects_step : boot_objects t (drop (i + 1) os) ≡ boot_objects s (drop i os)
-  objects_step = ap (λ u. boot_objects u (drop (i + 1) os)) booted ∙ ap (boot_objects s) (sym (rest_from os i o h is))
-
-  pub objects_room : RoomForObjects s.object_numbers (drop i os) → RoomForObjects t.object_numbers (drop (i + 1) os)
-  objects_room room = others_room s t o (drop (i + 1) os) booted (subst (λ xs. RoomForObjects s.object_numbers xs) (rest_from os i o h is) room)
 
 -- the first process that is left can start
 module _ (s : State) (w : WorldProc) (rest all : List WorldProc) (is : all ≡ w ∷ rest) (can : CanStart s.process_numbers all) where

@@ -16,18 +16,8 @@ use proc_table::ProcError;
 use std::alloc::Global;
 use sys_lookup::Shared;
 
-/// The state that has the objects of a world, and no process.
-pub fn load_objects(alloc: Global, world: &World) -> Result<Shared, NoMemory>
-    requires { IsWorld world.now }
-    ensures { IfOk result (λ shared. shared ≡ objects_loaded world.now) }
-{
-    let mut loading = Loading::new(alloc, world.bound, world.top)?;
-    loading.boot_objects(alloc, world.objects.items())?;
-    loading.load(alloc)
-}
-
 /// The state that has the objects of a world, and no process, and the processes of that world. The world is used up.
-pub fn load_objects_from(alloc: Global, world: World) -> Result<(Shared, ProcList), NoMemory>
+pub fn load_objects(alloc: Global, world: World) -> Result<(Shared, ProcList), NoMemory>
     requires { IsWorld world }
     ensures state { IfOk result (λ made. made.0 ≡ objects_loaded world) }
     ensures procs { IfOk result (λ made. made.1 ≡ world.procs) }
@@ -42,23 +32,6 @@ pub fn load_objects_from(alloc: Global, world: World) -> Result<(Shared, ProcLis
     loading.take_objects(alloc, objects)?;
     let shared = loading.load(alloc)?;
     Ok((shared, procs))
-}
-
-/// Makes the processes of a world, in order, and returns a record for each.
-pub fn boot_processes(
-    alloc: Global,
-    shared: &mut Shared,
-    procs: &[WorldProc],
-) -> Result<RecList, NoMemory>
-    requires { CanStart shared.old.process_numbers procs.now }
-    ensures state { OnOk result (shared.new ≡ boot_processes shared.old procs.now) }
-    ensures recs { IfOk result (λ recs. recs ≡ boot_recs_from shared.old procs.now) }
-{
-    let mut recs = RecList::with_capacity(alloc, procs.len())?;
-    for process in procs {
-        recs.push(boot_process(shared, process)?)?;
-    }
-    Ok(recs)
 }
 
 /// Makes the processes of a world, in order, and returns a record for each. Their list gives back its memory as it empties.

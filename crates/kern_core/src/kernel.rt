@@ -11,7 +11,7 @@ ghost use Rattle.kern_model.specs.Valid.{IsValid};
 ghost use Rattle.kern_model.specs.World.{IsWorld};
 ghost use Rattle.iso_laws.specs.Unnamed.{NeedsOnlyNamed};
 
-use crate::boot::{boot_processes, load_objects, load_objects_from, take_processes};
+use crate::boot::{load_objects, take_processes};
 use crate::calls::play;
 use cap_bits::CapState;
 use kern_model::{Call, Calls, NoMemory, Outcome, Pid, PidList, RecList, World};
@@ -51,9 +51,7 @@ impl Kernel {
         ensures valid { IfOk result (λ b. IsValid (state_of b.0)) }
         ensures sound { IfOk result (λ b. has_failed b.0 ≡ false) }
     {
-        let mut shared = load_objects(alloc, world)?;
-        let recs = boot_processes(alloc, &mut shared, world.procs.items())?;
-        Ok((Kernel::new(alloc, shared), recs))
+        Kernel::boot_from(alloc, world.copy(alloc)?)
     }
 
     /// The same as [`boot`](Kernel::boot). It uses the world up, so that the world and the kernel take less memory at a time.
@@ -65,7 +63,7 @@ impl Kernel {
         ensures valid { IfOk result (λ b. IsValid (state_of b.0)) }
         ensures sound { IfOk result (λ b. has_failed b.0 ≡ false) }
     {
-        let (mut shared, procs) = load_objects_from(alloc, world)?;
+        let (mut shared, procs) = load_objects(alloc, world)?;
         let recs = take_processes(alloc, &mut shared, procs)?;
         Ok((Kernel::new(alloc, shared), recs))
     }

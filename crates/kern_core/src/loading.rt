@@ -11,11 +11,10 @@ ghost use Rattle.kern_model.specs.Boot.{boot_object, boot_objects, nothing};
 ghost use Rattle.fs_dirs.specs.Tree.{AreEntries};
 ghost use Rattle.kern_core.specs.Starts.{IsSpotOf, LeadsTo, RoomForObjects, directory_from, has_no, state_loaded, world_object};
 
-use crate::from_world::{copy_body, copy_names};
 use cap_bits::CapSet;
 use fd_table::FdTable;
 use fs_dirs::{Spot, Spots, Tree, root_directory};
-use fs_nodes::{NodeError, Nodes};
+use fs_nodes::Nodes;
 use kern_model::{Attr, Body, Name, NameList, NoMemory, ObjectList, Oid, Path, WorldObject};
 use lab_lattice::Label;
 use proc_table::Procs;
@@ -89,19 +88,6 @@ impl Loading {
         })
     }
 
-    /// Makes the objects of a world, in order.
-    pub fn boot_objects(&mut self, alloc: Global, objects: &[WorldObject]) -> Result<(), NoMemory>
-        requires { RoomForObjects self.old.nodes.table.numbers objects.now }
-        ensures { OnOk result (state_loaded self.new ≡ boot_objects (state_loaded self.old) objects.now) }
-    {
-        let mut last = NamedDirectory::root(alloc);
-        for object in objects {
-            let body = copy_body(&object.body)?;
-            self.boot_object(&mut last, &object.path, object.label, object.attr, body)?;
-        }
-        Ok(())
-    }
-
     /// Makes the objects of a world, in order, and frees what it does not keep of each as soon as that object is made.
     pub fn take_objects(&mut self, alloc: Global, objects: ObjectList) -> Result<(), NoMemory>
         requires { RoomForObjects self.old.nodes.table.numbers objects }
@@ -158,11 +144,7 @@ impl Loading {
         ensures last { OnOk result (LeadsTo self.new.spots last.new) }
     {
         let spot = self.spot_of(last, path.components())?;
-        let id = match self.nodes.create(label, attr, body) {
-            Ok(id) => id,
-            Err(NodeError::Full) => unreachable!(),
-            Err(NodeError::NoMemory(e)) => return Err(e),
-        };
+        let id = self.nodes.create_next(label, attr, body)?;
         if let Some(spot) = spot {
             last.leave(&spot.1);
             self.spots.set(spot, id)?;
@@ -191,7 +173,7 @@ impl Loading {
     {
         if last.names.items() != names {
             last.dir = self.directory_at(names)?;
-            copy_names(&mut last.names, names)?;
+            last.names.copy_from(names)?;
         }
         Ok(())
     }

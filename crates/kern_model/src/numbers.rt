@@ -1,8 +1,8 @@
 // Numbers of processes, objects and open descriptions, of users and groups.
-ghost use Rattle.std.specs.Prelude.{◌≡◌};
+ghost use Rattle.std.specs.Prelude.{◌≡◌, IfOk};
 ghost use Rattle.kern_model.specs.Keys.{same_oid};
 
-use fs_path::List;
+use fs_path::{List, NoMemory};
 use lab_lattice::{Label, Lattice, bottom};
 
 /// The number of a process: the label that it was drawn at, and the count of its draw from 1 on.
@@ -103,5 +103,22 @@ impl Drop for Ids {
             sgid: _,
             groups: _,
         } = self;
+    }
+}
+
+impl Ids {
+    /// A copy of the users and groups.
+    pub fn copy(&self) -> Result<Ids, NoMemory>
+        ensures { IfOk result (λ ids. ids ≡ self.now) }
+    {
+        Ok(Ids {
+            ruid: self.ruid,
+            euid: self.euid,
+            suid: self.suid,
+            rgid: self.rgid,
+            egid: self.egid,
+            sgid: self.sgid,
+            groups: self.groups.copy()?,
+        })
     }
 }

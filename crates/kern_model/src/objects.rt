@@ -1,7 +1,9 @@
 // Objects, and what is reported of them.
+ghost use Rattle.std.specs.Prelude.{◌≡◌, IfOk};
+
 use crate::{Gid, Mode, Oid, Uid};
 use cap_bits::FileCaps;
-use fs_path::ByteList;
+use fs_path::{ByteList, NoMemory};
 use lab_lattice::Label;
 
 #[derive(Clone, Copy, Debug, PartialEq, Eq)]
@@ -29,6 +31,20 @@ pub enum Body {
     File(ByteList),
     Fifo,
     Pipe,
+}
+
+impl Body {
+    /// A copy of the body.
+    pub fn copy(&self) -> Result<Body, NoMemory>
+        ensures { IfOk result (λ body. body ≡ self.now) }
+    {
+        match self {
+            Body::Dir => Ok(Body::Dir),
+            Body::File(bytes) => Ok(Body::File(bytes.copy()?)),
+            Body::Fifo => Ok(Body::Fifo),
+            Body::Pipe => Ok(Body::Pipe),
+        }
+    }
 }
 
 /// An object with its present label. The bytes are the content of a file, or those that wait in a pipe or FIFO;

@@ -216,8 +216,10 @@ fn may_be_root(object: &WorldObject) -> bool
         && is_lowest(&object.label)
 }
 
-/// Whether a run may start from a world. It takes no memory, and so it looks for the directory of each object among all
-/// objects before it, and counts those of each label anew: its time grows with the square of the number of objects.
+/// Whether a run may start from a world. The program does not call it: `world_text` judges a world as it is read.
+///
+/// It takes no memory, and so it looks for the directory of each object among all objects before it, and counts those of each
+/// label anew: its time grows with the square of the number of objects.
 pub fn world_valid(world: &World) -> bool
     ensures { Decides result (IsWorld world.now) }
 {

@@ -1,7 +1,7 @@
 // What no clause says: that the calls succeed with ample memory.
 use cap_bits::{Cap, CapSet, CapState, FileCaps};
 use kern_model::{GroupList, Ids, NoMemory};
-use proc_creds::{Creds, NotAllowed, copy_ids};
+use proc_creds::{Creds, NotAllowed};
 use std::alloc::Global;
 
 // Credentials without effective and permitted capabilities, whose inheritable set is this.
@@ -72,7 +72,7 @@ fn is_copied(creds: &Creds) -> Result<bool, NoMemory> {
 }
 
 fn ids_are_copied(ids: &Ids) -> Result<bool, NoMemory> {
-    let copy = copy_ids(ids)?;
+    let copy = ids.copy()?;
     Ok(copy.ruid == 1 && copy.sgid == 6 && copy.groups.items().is_empty())
 }
 

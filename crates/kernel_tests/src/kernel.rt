@@ -5,19 +5,13 @@ ghost use Rattle.kern_model.specs.World.{IsWorld};
 use cap_bits::{Cap, CapSet, CapState, FileCaps};
 use kern_core::Kernel;
 use kern_model::{
-    Attr, Body, ByteList, GroupList, Ids, Mode, Name, ObjectList, Path, Pid, ProcList, Rec,
-    RecList, World, WorldObject, WorldProc, world_valid,
+    Attr, Body, ByteList, GroupList, Ids, Mode, ObjectList, Path, Pid, ProcList, Rec, RecList,
+    World, WorldObject, WorldProc, world_valid,
 };
 use lab_lattice::{Cats, Label, Level, Pair, bottom};
 use std::alloc::Global;
 
 const OWNER: u32 = 7;
-
-// The path of a name in the root directory.
-fn path_of(alloc: Global, bytes: &[u8]) -> Option<Path> {
-    let name = Name::read(alloc, bytes).ok()??;
-    Path::in_root(alloc, name).ok()
-}
 
 fn attr(mode: Mode) -> Attr {
     Attr {
@@ -38,7 +32,7 @@ fn root(alloc: Global) -> WorldObject {
 }
 
 fn file(alloc: Global, bytes: &[u8], label: Label) -> Option<WorldObject> {
-    let path = path_of(alloc, bytes)?;
+    let path = Path::read(alloc, bytes).ok()?;
     Some(WorldObject {
         path,
         label,
@@ -70,8 +64,8 @@ fn process(alloc: Global, label: Label, caps: CapSet) -> WorldProc {
 // Adds a root, and in it a file of the lowest label and one of the highest.
 fn add_objects(alloc: Global, objects: &mut ObjectList, top: Label) -> Option<()> {
     objects.push(root(alloc)).ok()?;
-    objects.push(file(alloc, b"low", bottom())?).ok()?;
-    objects.push(file(alloc, b"high", top)?).ok()
+    objects.push(file(alloc, b"/low", bottom())?).ok()?;
+    objects.push(file(alloc, b"/high", top)?).ok()
 }
 
 // Adds a process of the highest label, and two of the lowest, of which the second has these capabilities.

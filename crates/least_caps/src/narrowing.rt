@@ -3,11 +3,9 @@ ghost use Rattle.std.specs.Prelude.{◌≡◌, IfOk, map};
 ghost use Rattle.kern_model.specs.World.{IsWorld};
 ghost use Rattle.least_caps.specs.Narrowed.{attr_narrowed, caps_narrowed, file_narrowed, narrowed, object_narrowed, process_narrowed};
 
-use crate::copying::{copy_body, copy_path};
 use cap_bits::{CapSet, CapState, FileCaps};
 use fs_path::{List, NoMemory};
 use kern_model::{Attr, ObjectList, ProcList, World, WorldObject, WorldProc};
-use proc_creds::copy_ids;
 use std::alloc::Global;
 
 // The three sets without some capabilities.
@@ -34,21 +32,17 @@ fn file_narrowed(caps: &FileCaps, drop: CapSet) -> FileCaps
     }
 }
 
-fn object_narrowed(
-    alloc: Global,
-    object: &WorldObject,
-    drop: CapSet,
-) -> Result<WorldObject, NoMemory>
+fn object_narrowed(object: &WorldObject, drop: CapSet) -> Result<WorldObject, NoMemory>
     ensures { IfOk result (λ narrow. narrow ≡ object_narrowed drop object.now) }
 {
     Ok(WorldObject {
-        path: copy_path(alloc, &object.path)?,
+        path: object.path.copy()?,
         label: object.label,
         attr: Attr {
             caps: file_narrowed(&object.attr.caps, drop),
             ..object.attr
         },
-        body: copy_body(&object.body)?,
+        body: object.body.copy()?,
     })
 }
 
@@ -57,7 +51,7 @@ fn process_narrowed(process: &WorldProc, drop: CapSet) -> Result<WorldProc, NoMe
 {
     Ok(WorldProc {
         label: process.label,
-        ids: copy_ids(&process.ids)?,
+        ids: process.ids.copy()?,
         caps: caps_narrowed(&process.caps, drop),
     })
 }
@@ -71,7 +65,7 @@ fn objects_narrowed(
 {
     let mut narrow = List::with_capacity(alloc, objects.len())?;
     for object in objects {
-        narrow.push(object_narrowed(alloc, object, drop)?)?;
+        narrow.push(object_narrowed(object, drop)?)?;
     }
     Ok(narrow)
 }

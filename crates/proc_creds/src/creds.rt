@@ -85,21 +85,6 @@ fn exec_caps(old: &CapState, file: &FileCaps, bound: &CapSet) -> CapState
     }
 }
 
-/// A copy of the users and groups.
-pub fn copy_ids(ids: &Ids) -> Result<Ids, NoMemory>
-    ensures { IfOk result (λ copy. copy ≡ ids.now) }
-{
-    Ok(Ids {
-        ruid: ids.ruid,
-        euid: ids.euid,
-        suid: ids.suid,
-        rgid: ids.rgid,
-        egid: ids.egid,
-        sgid: ids.sgid,
-        groups: ids.groups.copy()?,
-    })
-}
-
 impl Creds {
     /// Whether the check `cap_grow` allows these capability sets.
     pub fn may_set(&self, state: &CapState) -> bool
@@ -188,7 +173,7 @@ impl Creds {
         ensures { IfOk result (λ copy. copy ≡ self.now) }
     {
         Ok(Creds {
-            ids: copy_ids(&self.ids)?,
+            ids: self.ids.copy()?,
             label: self.label,
             caps: self.caps,
             umask: self.umask,

@@ -3,5 +3,5 @@
 
 mod creds;
 
-pub use creds::{Creds, NotAllowed, copy_ids};
+pub use creds::{Creds, NotAllowed};
 pub use kern_model::NoMemory;

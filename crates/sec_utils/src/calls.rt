@@ -3,29 +3,9 @@ ghost use Rattle.std.specs.Prelude.{◌≡◌, IfOk, true, length};
 ghost use Rattle.sec_utils.specs.Calls.{call_on, calls_of, is_marked};
 
 use crate::{NoMemory, Tool, Util};
-use fs_path::{List, Name, NameList, Path};
+use fs_path::{List, Path};
 use kern_model::{Call, CallList};
 use std::alloc::Global;
-
-fn copy_names(alloc: Global, names: &[Name]) -> Result<NameList, NoMemory>
-    ensures { IfOk result (λ copy. copy ≡ names.now) }
-{
-    let mut copy = List::new(alloc);
-    for name in names {
-        copy.push(name.copy()?)?;
-    }
-    Ok(copy)
-}
-
-fn copy_path(alloc: Global, path: &Path) -> Result<Path, NoMemory>
-    ensures { IfOk result (λ copy. copy ≡ path.now) }
-{
-    let names = copy_names(alloc, path.components())?;
-    Ok(Path {
-        absolute: path.absolute,
-        names,
-    })
-}
 
 // The call for a path.
 fn call_on(util: &Util, path: Path) -> Option<Call>
@@ -48,7 +28,7 @@ pub fn expand(alloc: Global, util: &Util) -> Result<CallList, NoMemory>
 {
     let mut calls = List::new(alloc);
     for path in util.paths.items() {
-        if let Some(call) = call_on(util, copy_path(alloc, path)?) {
+        if let Some(call) = call_on(util, path.copy()?) {
             calls.push(call)?;
         }
     }

@@ -11,7 +11,6 @@ ghost use Rattle.sys_lookup.specs.PlaysRow.{PlaysRow};
 ghost use Rattle.sys_proc.specs.Playing.{is_own_call};
 
 use kern_model::{Answer, Call, NoMemory, Pid};
-use proc_creds::copy_ids;
 use sys_lookup::{CallResult, Caller, Effect};
 
 /// `getpid`, `getppid`, `getids`, `cap_get_proc` and `mac_get_proc`: what the caller is. Of these only `getids` takes memory.
@@ -36,7 +35,7 @@ fn own_answer(caller: &Caller<'_>, who: &Pid, call: &Call) -> Result<Answer, NoM
     match call {
         Call::Getpid => Ok(Answer::Process(*who)),
         Call::Getppid => Ok(Answer::Parent(caller.parent())),
-        Call::Getids => Ok(Answer::Ids(copy_ids(&creds.ids)?)),
+        Call::Getids => Ok(Answer::Ids(creds.ids.copy()?)),
         Call::CapGetProc => Ok(Answer::Caps(creds.caps)),
         Call::MacGetProc => Ok(Answer::Mark(creds.label)),
         _ => unreachable!(),

@@ -1,5 +1,5 @@
 // How texts of paths are read.
-use fs_path::{Name, NoMemory, Path, PathError};
+use fs_path::{NoMemory, Path, PathError};
 use std::alloc::Global;
 
 // A path with a `/` after each name.
@@ -67,21 +67,18 @@ fn limits(rt: HostRuntime) -> Result<(), NoMemory> {
     Ok(())
 }
 
-// Whether the bytes are a name, and the path of that name in the root is written so.
-fn is_in_root(alloc: Global, bytes: &[u8], text: &[u8]) -> bool {
-    let Ok(Some(name)) = Name::read(alloc, bytes) else {
+// Whether the copy of an absolute path is written so.
+fn is_copied(alloc: Global, bytes: &[u8], text: &[u8]) -> bool {
+    let Ok(path) = Path::read(alloc, bytes) else {
         return false;
     };
-    let Ok(copy) = name.copy() else {
-        return false;
-    };
-    match Path::in_root(alloc, copy) {
-        Ok(path) => path.absolute && is_written(alloc, &path, text),
+    match path.copy() {
+        Ok(copy) => copy.absolute && is_written(alloc, &copy, text),
         Err(_) => false,
     }
 }
 
 #[test]
-fn path_of_one_name(rt: HostRuntime) {
-    assert!(rt; is_in_root(rt.alloc(), b"a", b"a/"));
+fn path_is_copied(rt: HostRuntime) {
+    assert!(rt; is_copied(rt.alloc(), b"/a/b", b"a/b/"));
 }
