@@ -8,7 +8,7 @@ use crate::memory::copy_prefix;
 use crate::{Failed, Sink, Source};
 use std::marker::Model;
 
-/// A source of bytes in memory, which never fails.
+/// A source of bytes in memory, which never fails. The program has none.
 #[derive(Debug)]
 pub struct SureSource {
     bytes: Vec<u8>,

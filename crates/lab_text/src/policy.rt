@@ -419,7 +419,7 @@ pub fn top(policy: &Policy) -> Label
     }
 }
 
-/// Whether the policy's top dominates the label.
+/// Whether the policy's top dominates the label. The program does not call it.
 pub fn mac_valid(policy: &Policy, label: &Label) -> bool
     ensures { result ≡ is_valid policy.now label.now }
 {

@@ -13,9 +13,9 @@ pub enum LineFault {
     /// It does not have the form of the line that is expected there, it is a line of the world and has more than 2,048 bytes
     /// or capabilities effective in a process that are not permitted, or the input ends inside it or before the world does.
     Syntax,
-    /// A level, a category or a capability of the world is unknown.
+    /// A level, a category, a grade or a capability of the world is unknown.
     UnknownName,
-    /// A level, a category or a path is given twice.
+    /// A level, a category, a grade or a path is given twice.
     Repeated,
     /// The path's parent is not given or is not a directory, or the root is not given.
     NoParent,
@@ -23,7 +23,7 @@ pub enum LineFault {
     RootLabel,
     /// The label does not dominate that of the path's parent.
     LabelOrder,
-    /// There are more than 16 levels, 64 categories, 65,535 objects of a label or 4,095 processes of a label.
+    /// There are more than 16 levels, 64 categories, 16 grades, 65,535 objects of a label or 4,095 processes of a label.
     TooMany,
     /// A file has some capabilities effective, but not all that are permitted or inheritable.
     MixedCaps,

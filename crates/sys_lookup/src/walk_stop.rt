@@ -67,7 +67,8 @@ fn argument(second: bool) -> PathArgument
     }
 }
 
-/// Walks a path of a call of a living process from where it starts. Its last name may be absent.
+/// Walks a path of a call of a living process from where it starts. The program calls [`Caller::walk`]. The last name of the path
+/// may be absent.
 pub fn walk<'a>(
     shared: &Shared,
     checks: &mut Checks,

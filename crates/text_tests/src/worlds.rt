@@ -594,7 +594,7 @@ fn counts(alloc: Global, text: &[u8]) -> Result<(usize, usize), WorldError> {
 
 #[test]
 fn hidden_file_round_trip(rt: HostRuntime) -> Result<(), Fail> {
-    let written = canonical_text(rt.alloc(), HIDDEN)?;
+    let written = WorldText::read(rt.alloc(), HIDDEN)?.write()?;
     assert!(rt; written.as_slice() == HIDDEN);
     assert_eq!(rt; counts(rt.alloc(), &written)?, (3, 1));
     Ok(())

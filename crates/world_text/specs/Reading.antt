@@ -71,13 +71,3 @@ error_of (Ended n last) = Some (error.Syntax n)
 abbrev pub IsNotRead : Reading → WorldError → Type 0
 IsNotRead r (error.NoMemory _) = Unit {0}
 IsNotRead r e = error_of r ≡ Some e
-
--- a text is the written form of the world that was read
-abbrev pub IsWorldWritten : Reading → List ℕ → Type 0
-IsWorldWritten (Accepted world n script) text = text ≡ text_of_world world
-IsWorldWritten _ text = ⊥
-
--- a text is read as a world, and the written form of this world is read as the same where its lines are short
-abbrev pub RoundTrips : Reading → Reading → Type 0
-RoundTrips (Accepted world n script) round_trip = HasShortLines world → round_trip ≡ reading_of world
-RoundTrips _ round_trip = ⊥

@@ -2,7 +2,6 @@
 #![tactic(auto)]
 
 mod builder;
-mod canonical;
 mod chains;
 mod expecting;
 mod fault;
@@ -16,7 +15,6 @@ mod values;
 mod world;
 mod writing;
 
-pub use canonical::canonical_text;
 pub use expecting::{Expecting, Parsed, parse_line};
 pub use fault::WorldError;
 pub use format::Format;

@@ -39,7 +39,7 @@ impl WorldText {
         read_in(alloc, Format::Two, text)
     }
 
-    /// The same of a text in the old format.
+    /// The same of a text in the old format. The program reads such a text line by line, and calls `parse_line`.
     pub fn read_old(alloc: Global, text: &[u8]) -> Result<WorldText, WorldError>
         ensures read { IfOk result (IsRead (read_text One text.now)) }
         ensures world { IfOk result IsWorldText }
