@@ -3,7 +3,7 @@
 //! labels of which some are Low and some are not. Each law is stated in `specs/Laws.antt`. Those of isolation, that a
 //! valid state stays valid, and that the labels in calls and in records are below the highest one (`labels_below`, and the
 //! clauses `call` and `recs` of `step_below`) are for each call whose arguments are in their ranges, or for each script that
-//! may be played. The others ask nothing of the call.
+//! may be played. The others ask nothing of the call. The laws on one step of isolation are of a valid state that is kept.
 #![tactic(auto)]
 
 ghost use Rattle.iso_laws.specs.Laws.{LowStepReply, LowStepRecords, LowStepState, OtherStep, KeptStep, ValidStep};
@@ -27,7 +27,8 @@ pub fn other_step()
 {}
 
 /// Numbers, present labels and what belongs together stay on one side of each label, unless a step crosses it. A
-/// valid state stays valid, whatever crosses, where the arguments of the call are in their ranges.
+/// valid state stays valid, whatever crosses, where the arguments of the call are in their ranges and what a new entry may be
+/// named is a name.
 pub fn kept_step()
     ensures kept { KeptStep }
     ensures valid { ValidStep }

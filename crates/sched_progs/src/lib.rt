@@ -21,7 +21,8 @@ pub use watch::{SchedFault, Watch};
 
 /// In turns by label, what Low processes do and are answered before anything crosses is a prefix of what they do where the part
 /// of the state is all there is, with the programs and the turns of Low labels alone. Where no call crosses, both are the
-/// same, and so are the parts of the states in which both end. It holds from the first state of every world that is accepted.
+/// same, and so are the parts of the states in which both end. It holds from the first state of every world that is accepted, for
+/// programs whose calls have their arguments in their ranges and give entries names that are names.
 pub fn closed_loop()
     ensures prefix { ClosedLoopPrefix }
     ensures whole { ClosedLoopWhole }
