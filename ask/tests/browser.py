@@ -22,7 +22,7 @@ KEYS = {"Tab": 9, "Enter": 13, " ": 32, "ArrowUp": 38, "ArrowDown": 40, "End": 3
 
 
 class Unavailable(Exception):
-    """There is no browser, and none may be installed."""
+    """There is no browser."""
 
 
 class BrowserFault(Exception):
@@ -34,20 +34,11 @@ def find_browser() -> Optional[str]:
     return next(filter(None, map(shutil.which, NAMES)), None)
 
 
-def install_browser() -> str:
-    """Installs Debian's package `chromium` where it is missing, and gives its path; raises `Unavailable` where that may not be."""
+def need_browser() -> str:
+    """The path of a browser; raises `Unavailable` where there is none."""
     found = find_browser()
-    if found is None and shutil.which("apt-get") and os.geteuid() == 0:
-        environment = {**os.environ, "DEBIAN_FRONTEND": "noninteractive"}
-        for words in (["update"], ["install", "-y", "--no-install-recommends", "chromium"]):
-            try:
-                subprocess.run(["apt-get", *words], env=environment, stdin=subprocess.DEVNULL, stdout=subprocess.DEVNULL,
-                               stderr=subprocess.DEVNULL, check=False, timeout=300)
-            except subprocess.TimeoutExpired:
-                break
-        found = find_browser()
     if found is None:
-        raise Unavailable("there is no Chromium, and it can't be installed")
+        raise Unavailable("there is no Chromium, which Debian has in its package chromium")
     return found
 
 
@@ -60,7 +51,7 @@ class Browser:
         self.events: List[Dict[str, Any]] = []
 
     def __enter__(self) -> "Browser":
-        program = install_browser()
+        program = need_browser()
         self.folder = tempfile.TemporaryDirectory(prefix="labask-browser-", ignore_cleanup_errors=True)
         theirs_in, self.out = os.pipe()
         self.into, theirs_out = os.pipe()

@@ -41,22 +41,9 @@ def root():
     return os.geteuid() == 0
 
 
-def installed(name, package):
-    """The path of a program, which is installed from its Debian package where that is allowed; None where there is none."""
-    if shutil.which(name) is None and root() and shutil.which("apt-get"):
-        environment = {**os.environ, "DEBIAN_FRONTEND": "noninteractive"}
-        for words in (["update"], ["install", "-y", "--no-install-recommends", package]):
-            try:
-                subprocess.run(["apt-get", "-q", *words], env=environment, stdout=subprocess.DEVNULL, stderr=subprocess.DEVNULL,
-                               check=False, timeout=180)
-            except subprocess.TimeoutExpired:
-                break
-    return shutil.which(name)
-
-
 def strace():
     """The path of strace where it can trace here, and else None."""
-    found = installed("strace", "strace")
+    found = shutil.which("strace")
     if found is None:
         return None
     tried = subprocess.run([found, "-f", "-o", os.devnull, "true"], stderr=subprocess.DEVNULL, check=False)

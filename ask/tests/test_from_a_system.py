@@ -153,8 +153,8 @@ def main():
             faults.append(f"with {'strace' if each else 'the logs that are kept'}:\n    " + "\n    ".join(differing))
     if faults:
         sys.exit("\n".join(faults))
-    print(f"{len(commands)} commands played, {'with strace and ' if tracer else ''}with the logs that are kept; "
-          f"{len(known_texts())} known differences named")
+    live = "with strace and " if tracer else "without strace, which is not there, and "
+    print(f"{len(commands)} commands played, {live}with the logs that are kept; {len(known_texts())} known differences named")
 
 
 if __name__ == "__main__":

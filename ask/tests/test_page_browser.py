@@ -325,7 +325,7 @@ def main():
                     print(f"FAILED {test.__name__}: {failure}")
                     sys.exit(1)
     except Unavailable as reason:
-        print(f"passed over: {reason}")
+        print(f"skipped: {reason}")
         return
     print("; ".join(results))
 

@@ -222,7 +222,7 @@ def main():
         return
     counts = collections.Counter()
     kept, program = trace_kept(counts), strace()
-    live = f"{len(SCENARIOS)} programs traced" if program else "no program traced, since strace is not there"
+    live = f"{len(SCENARIOS)} programs traced" if program else "tracing skipped: there is no strace that may trace, which Debian has in its package strace"
     objects = trace_live(program, counts) if program else 0
     known = sum(count for what, count in counts.items() if what != Verdict.SAME.value)
     same = counts[Verdict.SAME.value]

@@ -10,7 +10,7 @@ import struct
 import subprocess
 import tempfile
 
-from system import installed, labask, play, root
+from system import labask, play, root
 
 from file_caps import read_attribute
 from worlds import path_word, read_world, split_words
@@ -85,7 +85,7 @@ def set_attributes(tree):
         except OSError:
             continue
         due[path] = text
-    setcap = installed("setcap", "libcap2-bin") if due else None
+    setcap = shutil.which("setcap") if due else None
     if setcap:
         (tree / "caps_setcap").write_bytes(b"")
         subprocess.run([setcap, "cap_fowner,cap_audit_write+ep", str(tree / "caps_setcap")], check=True)
@@ -314,7 +314,8 @@ def main():
         for check in (check_bytes, check_unfit, check_long_path, check_labels, check_links, check_own, check_versions, check_json,
                       check_many):
             check(folder)
-    print(f"{objects} objects of a tree, {capabilities} with capabilities; {checked} comparisons")
+    without = "" if shutil.which("setcap") else "; without setcap, which Debian has in its package libcap2-bin"
+    print(f"{objects} objects of a tree, {capabilities} with capabilities; {checked} comparisons{without}")
 
 
 if __name__ == "__main__":
