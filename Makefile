@@ -3,6 +3,12 @@
 #     make install [PREFIX=/usr/local] [DESTDIR=]
 #     make uninstall [PREFIX=/usr/local] [DESTDIR=]
 #
+# For those who change the repository (CONTRIBUTING.md):
+#
+#     make check CRATE=NAME    proves one crate
+#     make docs-check          checks the pages against the sources, in seconds and without the program
+#     make test                plays the cases, examples and questions with the program that is built
+#
 # `make` builds the program first, where it is not built; so does `make install`. The program goes below libexec/, and the script
 # that starts it, below bin/. So does `labask`, which is a link to its folder below libexec/.
 PREFIX = /usr/local
@@ -33,10 +39,20 @@ install: all
 	install -m 644 completion/_labsys '$(DESTDIR)$(zshdir)/_labsys'
 	install -m 644 editor/labsys.vim '$(DESTDIR)$(vimdir)/labsys.vim'
 
+check:
+	@test -n '$(CRATE)' || { echo 'usage: make check CRATE=NAME' >&2; exit 2; }
+	cd 'crates/$(CRATE)' && rt check
+
+docs-check:
+	tests/check_pages.sh
+
+test: all
+	tests/check_program.sh
+
 uninstall:
 	rm -f '$(DESTDIR)$(bindir)/labsys' '$(DESTDIR)$(libexecdir)/labsys' '$(DESTDIR)$(mandir)/man1/labsys.1'
 	rm -f '$(DESTDIR)$(bindir)/labask' '$(DESTDIR)$(mandir)/man1/labask.1'
 	rm -rf '$(DESTDIR)$(askdir)'
 	rm -f '$(DESTDIR)$(bashdir)/labsys' '$(DESTDIR)$(zshdir)/_labsys' '$(DESTDIR)$(vimdir)/labsys.vim'
 
-.PHONY: all install uninstall
+.PHONY: all install check docs-check test uninstall

@@ -690,7 +690,7 @@ NUMBERS = [
     ("docs/FORMATS.md", "TO is a number from 0 to {PLACE}."),
     ("docs/FORMATS.md", "no label after `slices`, or more than {SLICES} |"),
     ("docs/FORMATS.md", "the tag of `program` is not `n@label` with n from 1 to {PROCESSES} and"),
-    ("docs/PROFILE.md", "or took {JUMPS} jumps"),
+    ("docs/PROFILE.md", "or went through {JUMPS} jumps"),
     ("docs/FORMATS.md", "`all` in a list stands for all {CAPABILITIES} names"),
     ("docs/FORMATS.md", "has no list and is about all {CAPABILITIES}."),
     ("docs/FORMATS.md", "`too_long` where it has more than {LINE} bytes, and else"),
