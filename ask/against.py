@@ -11,9 +11,10 @@ from playing import Played, Player, Reply
 from strace.comparing import Comparison, Verdict, compare, note_tags
 from strace.log import Log, read_log
 from strace.script import shown
+from strace.values import DIGITS
 from worlds import ScriptLine, World, read_file
 
-COMMENT = re.compile(rb"# (\d+)(: |, )")
+COMMENT = re.compile(rb"# (%b)(: |, )" % DIGITS)
 DONE = 0
 EXPLAINED = 10
 

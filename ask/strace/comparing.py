@@ -216,7 +216,7 @@ def compare_names(call: Call, reply: Reply, tags: Dict[int, str]) -> None:
 def compare_wait(call: Call, reply: Reply, tags: Dict[int, str]) -> None:
     """Compares which child has ended, and how."""
     written = b", ".join(each.written for each in call.arguments).decode("latin-1")
-    found = re.search(r"si_pid=(\d+)", written)
+    found = re.search(r"si_pid=(\d{1,23})\b", written)
     pid = int(found[1]) if found else call.result.number
     tag, *ended = [word.text for word in reply.words]
     if tags.get(pid, tag) != tag:

@@ -9,7 +9,7 @@ from strace.log import Call
 from strace.script import Leave, Reason
 from strace.values import Argument, Handle
 from strace.waiting import Line, Pipe, PipeRead, PipeWrite, Waiting, nothing
-from worlds import quoted
+from worlds import MAX_INPUT, quoted
 
 READ_BYTES = 65536
 NUMBER = 4294967295
@@ -162,7 +162,14 @@ def given_bytes(argument: Argument, count: int) -> Tuple[bytes, int]:
     text = argument.string
     value = text.value[:count] if text else b""
     lacking = count - len(value)
-    return value + STAND_IN * lacking, lacking
+    return value + stand_ins(lacking), lacking
+
+
+def stand_ins(count: int) -> bytes:
+    """What stands for so many bytes that the log does not have."""
+    if count > MAX_INPUT:
+        raise Leave(Reason.NO_ARGUMENT, "more bytes than an input may have")
+    return STAND_IN * count
 
 
 def gathered(call: Call) -> Tuple[bytes, int]:
@@ -267,8 +274,8 @@ def copy(following: Following, call: Call, process: Process) -> None:
     taken, given = (each if each is not None and each.played is not None else None for each in ends)
     if taken is None and given is None:
         following.leave_unopened(source.handle, ends[0])
+    content = stand_ins(call.result.number) if taken is None else b""
     following.script.call(call)
-    content = STAND_IN * call.result.number
     if taken is not None:
         count = asked(taken, call, number(call.arguments[4 if ranged else 3]))
         reply = following.script.play(process.tag, "read", str(taken.played), count)

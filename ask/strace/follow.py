@@ -47,12 +47,19 @@ def begin(following: Following, pid: int, tag: str, start: bytes, umask: Optiona
         following.script.besides(0, "the umask at the beginning")
         following.script.play(tag, "umask", umask)
     path = following.inside(start)
-    if path == b"/":
-        process.in_step = True
-    elif path is not None:
+    process.in_step = path == b"/" or path is not None and moved_to_start(following, tag, start)
+
+
+def moved_to_start(following: Following, tag: str, start: bytes) -> bool:
+    """Moves the first process to its current directory, and says whether it is there; no world may have that directory."""
+    what = "the current directory at the beginning"
+    try:
         place = following.place_of_real(start)
-        following.script.besides(0, "the current directory at the beginning")
-        process.in_step = following.script.play(tag, "chdir", place.word).error is None
+        following.script.besides(0, what)
+        return following.script.play(tag, "chdir", place.word).error is None
+    except Leave as left:
+        following.script.leave_at(0, left.reason, left.text, what)
+        return False
 
 
 def follow_call(following: Following, call: Call) -> None:

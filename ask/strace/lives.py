@@ -7,6 +7,7 @@ from strace.files import Handler
 from strace.following import Following, Process, needed, number
 from strace.log import Call, Ended
 from strace.script import Leave, Reason
+from strace.values import DIGITS
 from strace.waiting import Waiting
 
 KEPT = 0xFFFFFFFF
@@ -75,7 +76,7 @@ def wait(following: Following, call: Call, process: Process) -> None:
     written = b", ".join(each.written for each in call.arguments)
     if re.search(rb"WNOWAIT|WIFSTOPPED|WIFCONTINUED|CLD_STOPPED|CLD_CONTINUED|CLD_TRAPPED", written):
         raise Leave(Reason.NO_ARGUMENT)
-    found = call.result.number if call.name != "waitid" else number_after(written, rb"si_pid=(\d+)")
+    found = call.result.number if call.name != "waitid" else number_after(written, rb"si_pid=(%b)\b" % DIGITS)
     if call.result.done and not found and process.ended_children:
         raise Leave(Reason.NO_ARGUMENT, "no child had ended yet")
     if not call.result.done and not re.match(rb"-1,|P_ALL", written):

@@ -4,17 +4,18 @@ from dataclasses import dataclass, field, replace
 from functools import cached_property
 from typing import Dict, Iterator, List, Optional, Set, Tuple, Union
 
-from strace.values import Argument, split_arguments, unescaped
+from strace.values import DIGITS, Argument, split_arguments, unescaped
 
 TIME = rb"(?:\d\d:\d\d:\d\d(?:\.\d+)? +|\d+\.\d+ +|\( *\+ +\d+\.\d+\) +)*"
-PREFIX = re.compile(rb"(?:\[pid +(\d+)\] +|(\d+) +)?" + TIME + rb"(?:\[ *[0-9a-f?]+\] +)*")
+PREFIX = re.compile(rb"(?:\[pid +(%b)\] +|(%b) +)?" % (DIGITS, DIGITS) + TIME + rb"(?:\[ *[0-9a-f?]+\] +)*")
 STARTED = re.compile(rb"([a-z_][a-z0-9_]*)\((.*)$", re.S)
 RESUMED = re.compile(rb"<\.\.\. ([a-z_][a-z0-9_]*) resumed> ?(.*)$", re.S)
 UNFINISHED = re.compile(rb" ?<unfinished \.\.\.>(?:\) += \?)?$")
-ENDED = re.compile(rb"\+\+\+ (?:exited with (\d+)|killed by (SIG[A-Z0-9+]+|[A-Z0-9_]+)(?: \(core dumped\))?) \+\+\+$")
-ATTACHED = re.compile(rb"^strace: Process (\d+) attached$")
+ENDED = re.compile(rb"\+\+\+ (?:exited with (%b)|killed by (SIG[A-Z0-9+]+|[A-Z0-9_]+)(?: \(core dumped\))?) \+\+\+$" % DIGITS)
+ATTACHED = re.compile(rb"^strace: Process (%b) attached$" % DIGITS)
 SIGNAL = re.compile(rb"--- .* ---$")
-RESULT = re.compile(rb"\) *= (-?\d+|0x[0-9a-f]+|\?)(?:<(.*?)>)?(?: ([A-Z][A-Z0-9_]*))?(?: \(.*\))?(?: <\d+\.\d+>)?$", re.S)
+RESULT = re.compile(rb"\) *= (-?%b|0x[0-9a-f]{1,23}|\?)(?:<(.*?)>)?(?: ([A-Z][A-Z0-9_]*))?(?: \(.*\))?(?: <\d+\.\d+>)?$" % DIGITS,
+                    re.S)
 CLOSING = re.compile(rb"\) *= ")
 OCTAL = re.compile(rb"0[0-7]+$")
 # calls that wait for what another process does: they count from the line of their result on, all others from their beginning

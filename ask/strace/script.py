@@ -75,10 +75,14 @@ class Script:
 
     def leave(self, call: Call, reason: Reason, text: str = "") -> None:
         """Leaves a call out."""
-        self.left_out[reason] += 1
         if reason is Reason.NO_CALL:
             self.unknown[call.name] += 1
-        self.comment(f"{call.line}, left out, {reason.value}{f' ({text})' if text else ''}: {shown(call)}")
+        self.leave_at(call.line, reason, text, shown(call))
+
+    def leave_at(self, line: int, reason: Reason, text: str, what: str) -> None:
+        """Leaves out what a line of the log has, or what there is before its first line, 0."""
+        self.left_out[reason] += 1
+        self.comment(f"{line}, left out, {reason.value}{f' ({text})' if text else ''}: {what}")
 
     def leave_line(self, line: int, text: bytes) -> None:
         """Leaves a line out that is no call."""

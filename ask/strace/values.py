@@ -7,9 +7,11 @@ TOKEN = re.compile(rb'"(?:[^"\\]|\\.)*"(?:\.\.\.)?|/\*.*?\*/|[(\[{]|[)\]}]|<|>|,
 STRING = re.compile(rb'"((?:[^"\\]|\\.)*)"(\.\.\.)?$', re.S)
 ESCAPE = re.compile(rb"\\(x[0-9a-fA-F]{2}|[0-7]{1,3}|.)", re.S)
 LETTERS = {b"n": b"\n", b"t": b"\t", b"r": b"\r", b"f": b"\f", b"v": b"\v", b"a": b"\a", b"b": b"\b"}
-NUMBER = re.compile(rb"(-?\d+|0x[0-9a-f]+)(?: |$|/)")
-DESCRIPTOR = re.compile(rb"(-?\d+|AT_FDCWD)(?:<(.*)>(?:\(deleted\))?)?$", re.S)
-PRODUCT = re.compile(rb"\d+(?:\*\d+)*$")
+# as many digits as a number of 64 bits has in octal; what has more of them is no number of a log
+DIGITS = rb"\d{1,23}"
+NUMBER = re.compile(rb"(-?%b|0x[0-9a-f]{1,23})(?: |$|/)" % DIGITS)
+DESCRIPTOR = re.compile(rb"(-?%b|AT_FDCWD)(?:<(.*)>(?:\(deleted\))?)?$" % DIGITS, re.S)
+PRODUCT = re.compile(rb"%b(?:\*%b){0,3}$" % (DIGITS, DIGITS))
 WORKING = -100
 DELETED = b" (deleted)"
 
@@ -20,7 +22,7 @@ def unescaped(text: bytes) -> bytes:
         item = found[1]
         if item[:1] == b"x" and len(item) == 3:
             return bytes([int(item[1:], 16)])
-        return bytes([int(item, 8) & 255]) if item[:1].isdigit() else LETTERS.get(item, item)
+        return bytes([int(item, 8) & 255]) if item[:1] in b"01234567" else LETTERS.get(item, item)
     return ESCAPE.sub(one, text)
 
 

@@ -123,7 +123,8 @@ def traced(folder, lines, *options):
     """The lines of the script of a log, by the line of the log that their comment names, and why others are left out."""
     (folder / "world").write_bytes(WORLD)
     (folder / "log").write_text("".join(line + "\n" for line in lines), encoding="latin-1")
-    run = read_world(labask("trace", folder / "world", folder / "log", *options)[0])
+    (folder / "run").write_bytes(labask("trace", folder / "world", folder / "log", *options)[0])
+    run = read_world((folder / "run").read_bytes())
     played, left_out, current = {}, {}, None
     for line in run.lines[run.script_line + 1:]:
         found = re.match(rb"# (\d+)(?:: |, besides: |, left out, ([^(:]*?)(?: \(.*?\))?: )", line.text)
@@ -193,6 +194,35 @@ def check_options(folder):
     equal(traced(folder, [line, opened])[0], due, "the directory that the log tells")
 
 
+def check_beginning(folder):
+    """A log that begins in a directory that no world has: calls with paths from the root are played, as everywhere."""
+    for start, why in ((f"/srv/site/{'n' * 64}", "the name has 64 bytes, and may have 63"),
+                       ("/srv/site/s/e", "/s is left out of the world")):
+        played, left_out, text = traced(folder, [f'7 openat(AT_FDCWD<{start}>, "f", O_RDONLY) = 3', '7 unlink("/srv/site/a") = 0'])
+        equal((played, left_out), ({2: ["1@base unlink /a"]}, dict.fromkeys((0, 1), "about what no world has")), start)
+        due = f"# 0, left out, about what no world has ({why}): the current directory at the beginning\n".encode()
+        equal(due in text, True, text)
+        equal(b"# 2 left out, about what no world has\n" in text, True, "what is left out is counted")
+
+
+def check_long_numbers(folder):
+    """Numbers that no log has, in each place: no call is made of such a line, and the other lines are followed."""
+    for digits in ("9" * 5000, "0x" + "f" * 5000, "9" * 24):
+        lines = [f'7 umask({digits}) = 0', f'7 umask(0) = {digits}', f'{digits} umask(0) = 0', f'[pid {digits}] umask(0) = 0',
+                 f'7 openat({digits}</srv/site>, "a", O_RDONLY) = {digits}</srv/site/a>', f'7 lseek(3, {digits}*2, SEEK_SET) = 0',
+                 f'strace: Process {digits} attached', f'7 kill({digits}, SIGTERM) = 0', f'7 close({digits}) = 0',
+                 f'7 waitid(P_ALL, 0, {{si_signo=SIGCHLD, si_pid={digits}, si_status=0}}, WEXITED, NULL) = 0',
+                 f'7 +++ exited with {digits} +++', '7 mkdir("x", 0777) = 0']
+        played, _, _ = traced(folder, lines)
+        equal({line: due for line, due in played.items() if line != 10}, {12: ["1@base mkdir x 0777"]}, digits[:30])
+        labask("why", folder / "run", "--against", folder / "log")
+    open_line, many = '7 openat(AT_FDCWD</srv/site>, "a", O_RDWR) = 3</srv/site/a>', 99999999999999999999
+    lines = [open_line, f'7 write(3</srv/site/a>, "a", {many}) = -1 EFAULT (Bad address)',
+             f'7 sendfile(3</srv/site/a>, 0</dev/null>, NULL, {many}) = {many}']
+    due = dict.fromkeys((2, 3), "with what the profile's call does not have")
+    equal(traced(folder, lines)[1], due, "more bytes than there may be")
+
+
 def check_faults(folder):
     """Wrong command lines, and worlds that are refused."""
     for options in (("--as", "9@base"), ("--umask", "8")):
@@ -239,6 +269,7 @@ def check_values():
           [b"3</a,b>", b'"x, \\"y"', b"{a=1, b=[2, 3]}", b"1<<3|4"], "arguments")
     equal(Argument(b'"\\1\\12\\1234\\x41\\n\\\\"...').string.value, b"\x01\n\x534A\n\\", "a string")
     equal(Argument(b'"a"...').string.whole, False, "a string that was cut")
+    equal(Argument(b'"\\8\\9\\78"').string.value, b"89\x078", "digits that are not octal")
     equal((Argument(b"8192*1024").number, Argument(b"-1").number, Argument(b"0x1f").number, Argument(b"022").number),
           (8388608, -1, 31, 18), "numbers")
     handle = Argument(b"3</a\\74b\\76 (deleted)>").handle
@@ -255,6 +286,8 @@ def main():
         check_terminal(folder)
         check_summary(folder)
         check_options(folder)
+        check_beginning(folder)
+        check_long_numbers(folder)
         check_faults(folder)
         check_broken(BROKEN)
     print(f"{len(LOG)} lines of a log in 3 forms, {BROKEN} logs with broken lines; {checked} comparisons")
