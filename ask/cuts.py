@@ -7,6 +7,7 @@ from typing import Any, Dict, Iterator, List, Optional, Sequence, Set, Tuple, Un
 
 from answers import NOT_ABSENT, PLAYED, Progress, WrongWords, table, write_json
 from capability_texts import read_sets
+from command_words import number
 from observing import prefixes
 from playing import Outcome, Played, Player, Reply, Session
 from signatures import CALLS, CAPABILITIES, UTILITIES, arguments_of
@@ -36,8 +37,8 @@ class Cut:
 def add_arguments(parser: argparse.ArgumentParser) -> None:
     """Adds the arguments of the question."""
     parser.add_argument("file", metavar="FILE", help="the world with its script")
-    parser.add_argument("call", metavar="N", type=int, help="the number of a call that is done, from 1")
-    parser.add_argument("--apply", metavar="K", type=int, help="write the world with the change in row K of the answer instead")
+    parser.add_argument("call", metavar="N", type=number, help="the number of a call that is done, from 1")
+    parser.add_argument("--apply", metavar="K", type=number, help="write the world with the change in row K of the answer instead")
 
 
 # ---- changes

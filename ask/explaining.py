@@ -10,7 +10,7 @@ from typing import Callable, Dict, Iterator, List, Optional, Sequence, Tuple
 from capability_texts import TextFault, read_sets, text_faults
 from label_texts import NAME, label_faults, listed
 from signatures import CALLS, CAPABILITIES, LINES, UTILITIES, arguments_of
-from worlds import MAX_LINE, Line, Policy, Word, World, canonical_path, parent_path, quoted
+from worlds import MAX_LINE, TAG_NUMBER, Line, Policy, Word, World, canonical_path, parent_path, quoted
 
 MAX_NUMBER = 4_294_967_295
 MAX_PATH, MAX_PATH_NAME, MAX_PATH_NAMES = 1_023, 63, 32
@@ -50,7 +50,7 @@ def in_word(kind: str, name: str, word: Word, fault: TextFault) -> Finding:
 
 def number_fault(text: str, limit: int = MAX_NUMBER) -> Optional[str]:
     """What is looked for in place of a number."""
-    if re.fullmatch(r"\d{1,10}", text) and int(text) <= limit:
+    if re.fullmatch(r"[0-9]{1,10}", text) and int(text) <= limit:
         return None
     return f"expected a number of 1 to 10 decimal digits, at most {limit:,}"
 
@@ -315,7 +315,7 @@ def tag_message(text: str, policy: Policy) -> Optional[str]:
     number, at, label = text.partition("@")
     if not at:
         return "expected n@label"
-    if not re.fullmatch(r"\d+", number) or not 1 <= int(number) <= MAX_PROCESS_NUMBER:
+    if not TAG_NUMBER.fullmatch(number) or not 1 <= int(number) <= MAX_PROCESS_NUMBER:
         return f"processes are numbered from 1 to {MAX_PROCESS_NUMBER:,}; expected n@label"
     return next((fault.message for fault in label_faults(label, policy)), None)
 
@@ -324,7 +324,7 @@ def pid_findings(word: Word, policy: Policy) -> Iterator[Finding]:
     """Faults of an argument PID."""
     message = tag_message(word.text, policy)
     if message:
-        malformed = not re.fullmatch(r"\d+@.*", word.text, re.S)
+        malformed = not re.fullmatch(r"[0-9]+@.*", word.text, re.S)
         yield on_word("syntax" if malformed else "bad_label", "PID", word, message)
 
 

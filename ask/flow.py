@@ -5,6 +5,7 @@ from dataclasses import dataclass, field
 from typing import Any, Dict, Iterator, List, Optional, Sequence, Tuple
 
 from answers import NOT_ABSENT, PLAYED, WrongWords, table, write_json
+from command_words import number
 from observing import with_observer
 from playing import Outcome, Played, Player
 from signatures import CAPABILITIES
@@ -21,7 +22,7 @@ def add_arguments(parser: argparse.ArgumentParser) -> None:
     parser.add_argument("file", metavar="FILE", help="the world; its script is not played")
     parser.add_argument("source", metavar="FROM", help="the path of the file whose bytes are followed")
     parser.add_argument("goal", metavar="TO", help="a process n@label, or the path of a file or FIFO")
-    parser.add_argument("--depth", metavar="N", type=int, default=DEPTH, help=f"the most calls of a script; {DEPTH} by default")
+    parser.add_argument("--depth", metavar="N", type=number, default=DEPTH, help=f"the most calls of a script; {DEPTH} by default")
     parser.add_argument("--without", metavar="CAP", action="append", default=[], choices=CAPABILITIES,
                         help="look only for calls that do not use this capability; may be given several times")
 

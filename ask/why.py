@@ -6,6 +6,7 @@ from typing import Any, Dict, Iterator, List, Optional, Sequence
 from answers import NOT_ABSENT, PLAYED, Progress, WrongWords, write_json
 from capability_texts import read_sets
 from check import without_process
+from command_words import number
 from granting import Passing, Trials
 from observing import ObjectFacts, Observed, ProcessFacts, prefixes
 from playing import Outcome, Played, Player, PlayingFault, Reply
@@ -96,7 +97,7 @@ def process_as_json(facts: Optional[ProcessFacts]) -> Optional[Dict[str, Any]]:
 def add_arguments(parser: argparse.ArgumentParser) -> None:
     """Adds the arguments of the question."""
     parser.add_argument("file", metavar="FILE", help="the world with its script")
-    parser.add_argument("call", metavar="N", nargs="?", type=int,
+    parser.add_argument("call", metavar="N", nargs="?", type=number,
                         help="the number of a call, from 1; by default each call that was denied or refused")
     parser.add_argument("--against", metavar="LOG", help="the log of strace of which `labask trace` made the script: says instead "
                         "which replies differ from those in it")

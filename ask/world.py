@@ -2,12 +2,12 @@
 import argparse
 import collections
 import os
-import re
 import sys
 from dataclasses import dataclass, field
 from typing import Dict, List, Optional, Tuple
 
 from answers import write_json
+from command_words import number
 from directories import Entry, LeftOut, Note, Reading, SecondName, Unfit, note_text, read_tree
 from file_caps import SPLIT, own_sets
 from label_maps import LabelFault, LabelMap, read_labels
@@ -19,7 +19,6 @@ DONE = 0
 REFUSED = 2
 FILE_BYTES = 65536
 GROUPS = 16
-NUMBER = 4294967295
 MAKER_CAPS = "cap_dac_read_search,cap_dac_write,cap_fsetid,cap_mac_read,cap_mac_write=ep"
 ROOT_COMMENT = "root"
 
@@ -71,13 +70,6 @@ class Writing:
     def text(self) -> bytes:
         """The bytes of all lines."""
         return "".join(line + "\n" for line in self.lines).encode("ascii")
-
-
-def number(text: str, limit: int = NUMBER) -> int:
-    """A number of a word of the command line."""
-    if not re.fullmatch(r"\d{1,10}", text) or int(text) > limit:
-        raise argparse.ArgumentTypeError(f"{text!r} is no number from 0 to {limit}")
-    return int(text)
 
 
 def read_bytes(text: str) -> int:

@@ -14,6 +14,7 @@ from typing import Callable, Dict, Iterable, Iterator, List, Mapping, NamedTuple
 
 MAX_INPUT = 16_777_216
 MAX_LINE = 2_048
+TAG_NUMBER = re.compile(r"[0-9]{1,10}")
 UTILITIES = {"getfcap": ("cap_get_file", 0), "setfcap": ("cap_set_file", 1), "getfmac": ("mac_get_file", 0),
              "setfmac": ("mac_set_file", 1)}
 
@@ -199,7 +200,7 @@ class Policy:
     def canonical_tag(self, tag: str) -> str:
         """The canonical form of n@label; another text stays as it is."""
         number, at, label = tag.partition("@")
-        return f"{int(number)}@{self.canonical(label)}" if at and number.isdigit() else tag
+        return f"{int(number)}@{self.canonical(label)}" if at and TAG_NUMBER.fullmatch(number) else tag
 
 
 @dataclass(frozen=True)
@@ -359,7 +360,7 @@ def read_process(line: Line, policy: Policy, draw: Callable[[str], str]) -> Opti
     if words[0].text != "proc" or len(words) != 6:
         return None
     user, group = number_of(words[2]), number_of(words[3])
-    if user is None or group is None or not re.fullmatch(rb"-|\d+(,\d+)*", words[4].value):
+    if user is None or group is None or not re.fullmatch(rb"-|[0-9]{1,10}(,[0-9]{1,10})*", words[4].value):
         return None
     groups = () if words[4].value == b"-" else tuple(map(int, words[4].value.split(b",")))
     label = policy.canonical(words[1].text)

@@ -1,0 +1,12 @@
+"""Types of words of the command line, for `add_argument`."""
+import argparse
+import re
+
+LARGEST = 4294967295
+
+
+def number(text: str, limit: int = LARGEST) -> int:
+    """A number of decimal digits of ASCII."""
+    if not re.fullmatch(r"[0-9]{1,10}", text) or int(text) > limit:
+        raise argparse.ArgumentTypeError(f"{text!r} is no number from 0 to {limit}")
+    return int(text)

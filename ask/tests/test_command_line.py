@@ -1,0 +1,55 @@
+#!/usr/bin/env python3
+"""Tests words of the command line that name nothing, or stand in another order, and files and programs that are not what is due."""
+import pathlib
+import tempfile
+
+from support import EXAMPLES, labask, report
+
+WORLD = EXAMPLES[0].parent / "lesson.txt"
+
+
+def word_faults(due):
+    """Command lines that have another exit status, or other messages, than they should have."""
+    for words, status, said in due:
+        got, _, messages = labask(*words)
+        if got != status or said not in messages or "Traceback" in messages:
+            yield f"{[str(word) for word in words]}: status {got}, not {status}: {messages}"
+
+
+def number_faults(folder):
+    """Digits of other scripts are no numbers, and neither is what Python alone reads as one."""
+    yield from word_faults(
+        [((*words[:-1], words[-1].format(digits)), 1, "is no number from 0 to" if "@" not in words[-1] else "has no process")
+         for digits in ("\u0661", "\u00b2", "1_0", " 1", "+1", "9" * 5000)
+         for words in (("why", WORLD, "{}"), ("cuts", WORLD, "{}"), ("cuts", WORLD, "1", "--apply", "{}"),
+                       ("flow", WORLD, "/exam/marks", "1@public", "--depth", "{}"), ("world", folder, "--bytes", "{}"),
+                       ("world", folder, "--root-user", "{}"),
+                       ("world", folder, "--proc", "{}:1:-:="), ("world", folder, "--proc", "1:1:{}:="),
+                       ("who", WORLD, "--process", "{}@public"), ("flow", WORLD, "/exam/marks", "{}@public"))])
+
+
+def tag_faults(folder):
+    """Numbers of processes in a file that are none are explained as other faults are."""
+    head = WORLD.read_bytes().partition(b"\nscript\n")[0] + b"\nscript\n"
+    path = folder / "tags.txt"
+    for line in (b'"\\xb2@public" getpid', b'1@public kill "\\xb2@public" 0', b"9" * 1500 + b"@public getpid",
+                 b"9" * 5000 + b"@public getpid"):
+        path.write_bytes(head + line + b"\n")
+        status, out, messages = labask("check", path)
+        if status != 2 or f"{path}:{head.count(10) + 1}: " not in out or messages:
+            yield f"{line[:40]}: status {status}: {out}{messages}"
+
+
+TESTS = (number_faults, tag_faults)
+
+
+def main():
+    faults = []
+    for test in TESTS:
+        with tempfile.TemporaryDirectory(prefix="labask-") as name:
+            faults += test(pathlib.Path(name))
+    report("parts of the command line are read, or refused with a message", len(TESTS), faults)
+
+
+if __name__ == "__main__":
+    main()
