@@ -11,6 +11,7 @@ from dataclasses import dataclass
 from typing import NoReturn, Optional, Sequence
 
 from answers import WrongWords
+from command_words import named
 from playing import Player, PlayingFault, Refused, find_program
 
 DONE = 0
@@ -64,7 +65,7 @@ class QuestionParser(argparse.ArgumentParser):
 
 def add_program(parser: argparse.ArgumentParser, default: Optional[str]) -> None:
     """Adds the option that names the program."""
-    parser.add_argument("--labsys", metavar="PROGRAM", default=default,
+    parser.add_argument("--labsys", metavar="PROGRAM", type=named, default=default,
                         help="the program labsys; else that of the variable LABSYS, the one beside the folder of labask, or the "
                         "one on PATH")
 

@@ -6,6 +6,7 @@ import sys
 from typing import Optional, Set
 
 from answers import write_json
+from command_words import named
 from directories import OTHERS
 from playing import Player, Session
 from strace.follow import begin, ends_of, first_directory, first_process, follow
@@ -30,12 +31,12 @@ def add_arguments(parser: argparse.ArgumentParser) -> None:
     """Adds the arguments of the question."""
     parser.add_argument("file", metavar="WORLD", help="the world; `labask world DIR` writes one; - is standard input")
     parser.add_argument("log", metavar="LOG", help="the log of `strace -f -y`")
-    parser.add_argument("--directory", metavar="DIR", help="the directory that is the root of the world; else the one that a "
-                        "comment of the world names")
-    parser.add_argument("--as", metavar="TAG", dest="tag",
+    parser.add_argument("--directory", metavar="DIR", type=named,
+                        help="the directory that is the root of the world; else the one that a comment of the world names")
+    parser.add_argument("--as", metavar="TAG", dest="tag", type=named,
                         help="the process that the log begins with; the first of the world by default")
-    parser.add_argument("--start", metavar="DIR", help="the current directory at the beginning, where the log does not tell; the "
-                        "root of the world by default")
+    parser.add_argument("--start", metavar="DIR", type=named, help="the current directory at the beginning, where the log does not "
+                        "tell; the root of the world by default")
     parser.add_argument("--umask", metavar="MODE", type=read_mode, help="the umask at the beginning; 0022 by default")
 
 

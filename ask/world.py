@@ -7,7 +7,7 @@ from dataclasses import dataclass, field
 from typing import Dict, List, Optional, Tuple
 
 from answers import write_json
-from command_words import number
+from command_words import named, number
 from directories import Entry, LeftOut, Note, Reading, SecondName, Unfit, note_text, read_tree
 from file_caps import SPLIT, own_sets
 from label_maps import LabelFault, LabelMap, read_labels
@@ -101,13 +101,14 @@ def own_process() -> Proc:
 
 def add_arguments(parser: argparse.ArgumentParser) -> None:
     """Adds the arguments of the question."""
-    parser.add_argument("directory", metavar="DIR", help="the directory that becomes the root of the world")
+    parser.add_argument("directory", metavar="DIR", type=named, help="the directory that becomes the root of the world")
     parser.add_argument("--bytes", metavar="N", type=read_bytes, default=0,
                         help="take the first N bytes of each file, 0 to 65536; 0 by default")
     parser.add_argument("--proc", metavar="UID:GID:GROUPS:CAPS[:LABEL]", type=read_proc, action="append", default=[],
                         help="a process; without this option the one process is that of who asks")
-    parser.add_argument("--labels", metavar="FILE", help="the labels: lines of a policy, and lines `label PATH LABEL`, of which "
-                        "that with the longest beginning of a path counts; else all labels are the lowest")
+    parser.add_argument("--labels", metavar="FILE", type=named,
+                        help="the labels: lines of a policy, and lines `label PATH LABEL`, of which that with the longest beginning "
+                        "of a path counts; else all labels are the lowest")
     parser.add_argument("--root-user", metavar="UID", type=number, default=0,
                         help="take capability sets, too, that count only where the user UID is root")
 

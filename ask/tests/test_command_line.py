@@ -40,7 +40,16 @@ def tag_faults(folder):
             yield f"{line[:40]}: status {status}: {out}{messages}"
 
 
-TESTS = (number_faults, tag_faults)
+def empty_faults(folder):
+    """Words that name a file, a directory or a process, and are empty."""
+    (folder / "log").write_bytes(b'7 mkdir("x", 0777) = 0\n')
+    yield from word_faults(
+        [(words, 1, "the word is empty")
+         for words in (("world", ""), ("world", folder, "--labels", ""), ("--labsys", "", "check", WORLD),
+                       ("check", WORLD, "--labsys", ""), *(("trace", WORLD, folder / "log", option, "") for option in ("--directory", "--start", "--as")))])
+
+
+TESTS = (number_faults, tag_faults, empty_faults)
 
 
 def main():
