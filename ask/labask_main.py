@@ -52,15 +52,21 @@ class QuestionParser(argparse.ArgumentParser):
         self.exit(USAGE, f"{self.prog}: {message}\n")
 
     def parse_known_args(self, args=None, namespace=None):
-        """As that of the base class, with the arguments of the question."""
+        """As that of the base class, with the arguments of the question, between whose words options may stand."""
         if self.question is not None:
-            module = importlib.import_module(QUESTIONS[self.question].module)
+            self.add_question(QUESTIONS[self.question].module)
             self.question = None
-            module.add_arguments(self)
-            self.add_argument("--json", action="store_true", help="write the answer as JSON")
-            add_program(self, argparse.SUPPRESS)
-            self.set_defaults(answer=module.answer)
+            if "--" not in args:
+                return self.parse_known_intermixed_args(args, namespace)
         return super().parse_known_args(args, namespace)
+
+    def add_question(self, name: str) -> None:
+        """Adds the arguments of the question of a module."""
+        module = importlib.import_module(name)
+        module.add_arguments(self)
+        self.add_argument("--json", action="store_true", help="write the answer as JSON")
+        add_program(self, argparse.SUPPRESS)
+        self.set_defaults(answer=module.answer)
 
 
 def add_program(parser: argparse.ArgumentParser, default: Optional[str]) -> None:

@@ -5,6 +5,8 @@ import tempfile
 
 from support import EXAMPLES, labask, report
 
+from playing import find_program
+
 WORLD = EXAMPLES[0].parent / "lesson.txt"
 
 
@@ -49,7 +51,21 @@ def empty_faults(folder):
                        ("check", WORLD, "--labsys", ""), *(("trace", WORLD, folder / "log", option, "") for option in ("--directory", "--start", "--as")))])
 
 
-TESTS = (number_faults, tag_faults, empty_faults)
+def order_faults(_):
+    """Options may stand before, between and behind the words of a question; behind -- no word is an option."""
+    options, asked = ("--process", "1@public"), (WORLD, "/exam", "/exam/marks")
+    orders = [("who", *asked[:at], *options, *asked[at:]) for at in range(4)] + [("who", *options, "--", *asked)]
+    program = ("--labsys", find_program())
+    orders += [("why", WORLD, "4"), ("why", *program, WORLD, "4"), ("why", WORLD, *program, "4")]
+    answers = [labask(*words) for words in orders]
+    for begin, end in ((0, 5), (5, 8)):
+        yield from (f"{words[0]} {words[1:]}: {answer}" for words, answer in zip(orders[begin:end], answers[begin:end])
+                    if answer != answers[begin] or answer[0] != 0)
+    yield from word_faults([(("who", WORLD, "--none", "/exam"), 1, "unrecognized arguments: --none"),
+                            (("who", "--process", "1@public"), 1, "required: FILE")])
+
+
+TESTS = (number_faults, tag_faults, empty_faults, order_faults)
 
 
 def main():
