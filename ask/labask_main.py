@@ -39,7 +39,7 @@ QUESTIONS = {
 }
 ENDING = """\
 Exit status: 0 where the question was answered, 1 for a wrong command line or a file that can't be read, 2 where labsys refuses
-the input, and 70 where labsys is missing or fails."""
+the input, and 70 where labsys is missing, is another program, or fails."""
 
 
 class QuestionParser(argparse.ArgumentParser):

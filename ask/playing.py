@@ -1,21 +1,31 @@
 """Plays worlds with `labsys`, and reads what it writes: replies, end lines, refusals, records."""
 import enum
+import functools
 import json
 import os
 import pathlib
+import re
+import select
 import shutil
+import signal
 import subprocess
 import tempfile
+import time
 from dataclasses import dataclass, replace
 from functools import cached_property
 from typing import Any, Dict, Iterator, List, Optional, Sequence, Tuple
 
-from worlds import UTILITIES, Word, split_words
+from worlds import UTILITIES, Word, quoted, split_words
 
 STATUS_ACCEPTED = 0
 STATUS_REFUSED = 2
 STATUS_TOO_LONG = 7
 ANSWERED = (STATUS_ACCEPTED, STATUS_REFUSED, STATUS_TOO_LONG)
+VERSION = re.compile(rb"labsys [0-9]+\.[0-9]+\.[0-9]+[^ ]*$")
+COUNTS = re.compile(rb"ok ([0-9]+) ([0-9]+) ([0-9]+)\n")
+LAST_LINE = re.compile(rb"^done [0-9]+\n\Z", re.M)
+FIRST_SECONDS = 10.0  # within which a program says its version
+FIRST_BYTES = 64  # of its answer that are read
 
 
 class Outcome(enum.Enum):
@@ -164,6 +174,8 @@ class Player:
         played = self.play(text)
         if played.status != STATUS_ACCEPTED:
             raise Refused(text, played.refusal)
+        if not LAST_LINE.search(played.out):
+            raise PlayingFault(f"{self.program[0]} does not answer as labsys does")
         return played
 
     def check(self, text: bytes) -> Optional[Tuple[int, int, int]]:
@@ -171,7 +183,10 @@ class Player:
         status, out, messages = self.run(["check"], text)
         if status != STATUS_ACCEPTED:
             raise Refused(text, Played(status, out, b"", messages).refusal)
-        objects, processes, calls = map(int, out.split()[1:4])
+        counts = COUNTS.fullmatch(out)
+        if counts is None:
+            raise PlayingFault(f"{self.program[0]} does not answer as labsys does")
+        objects, processes, calls = map(int, counts.groups())
         return objects, processes, calls
 
     def view(self, label: str, text: bytes) -> Played:
@@ -293,4 +308,45 @@ def find_program(given: Optional[str] = None) -> str:
     whole = shutil.which(found) if found else None
     if whole is None:
         raise PlayingFault(f"there is no program {found}" if found else "there is no program labsys")
-    return os.path.abspath(whole)
+    path = os.path.abspath(whole)
+    require_labsys(path)
+    return path
+
+
+@functools.lru_cache(maxsize=None)
+def require_labsys(path: str) -> None:
+    """Raises `PlayingFault` where a program does not say, when it is asked for its version, that it is `labsys`."""
+    try:
+        run = subprocess.Popen([path, "--version"], stdin=subprocess.DEVNULL, stdout=subprocess.PIPE, stderr=subprocess.DEVNULL,
+                               start_new_session=True)
+    except OSError as fault:
+        raise PlayingFault(f"{path}: {fault.strerror}") from fault
+    try:
+        line, late = first_line(run.stdout.fileno())
+    finally:
+        end_session(run)
+    if not VERSION.match(line):
+        said = f"did not answer within {FIRST_SECONDS:.0f} seconds" if late else f"answered {quoted(line)}"
+        raise PlayingFault(f"{path} is not labsys: asked for its version, it {said}")
+
+
+def first_line(descriptor: int) -> Tuple[bytes, bool]:
+    """The beginning of the first line that a program writes to a pipe, and whether the time for it was over."""
+    line, end = b"", time.monotonic() + FIRST_SECONDS
+    while b"\n" not in line and len(line) < FIRST_BYTES:
+        if not select.select([descriptor], [], [], max(0.0, end - time.monotonic()))[0]:
+            return line, True
+        piece = os.read(descriptor, FIRST_BYTES)
+        if not piece:
+            break
+        line += piece
+    return line.partition(b"\n")[0], False
+
+
+def end_session(run: "subprocess.Popen[bytes]") -> None:
+    """Ends a program that has a session of its own, and what it has started there."""
+    with run:
+        try:
+            os.killpg(run.pid, signal.SIGKILL)
+        except ProcessLookupError:
+            pass

@@ -1,10 +1,13 @@
 #!/usr/bin/env python3
 """Tests words of the command line that name nothing, or stand in another order, and files and programs that are not what is due."""
+import itertools
 import pathlib
 import tempfile
+import time
 
 from support import EXAMPLES, labask, report
 
+import playing
 from playing import find_program
 
 WORLD = EXAMPLES[0].parent / "lesson.txt"
@@ -65,7 +68,36 @@ def order_faults(_):
                             (("who", "--process", "1@public"), 1, "required: FILE")])
 
 
-TESTS = (number_faults, tag_faults, empty_faults, order_faults)
+# programs that are not labsys, as scripts, and how the message about each of them ends
+OTHERS = {
+    "silent": ("exit 0", 'answered ""'), "failing": ("exit 3", 'answered ""'), "ended": ("kill -9 $$", 'answered ""'),
+    "talking": ("echo some words", 'answered "some words"'), "named": ("echo labsys 1.0.0", "does not answer as labsys does"),
+    "copying": ('echo "$1"; cat', 'answered "--version"'), "resting": ("sleep 60", "did not answer within 1 seconds"),
+    "endless": ("while :; do printf x; done", f'answered "{"x" * 64}"'),
+    "slow": ("printf labsys; sleep 60 & wait", "did not answer within 1 seconds"),
+}
+
+
+def program_faults(folder):
+    """Programs that are not labsys are refused with one line, within the time limit."""
+    playing.FIRST_SECONDS = 1.0
+    for question, (name, (line, said)) in itertools.product(("check", "why"), OTHERS.items()):
+        program = folder / name
+        program.write_text(f"#!/bin/sh\n{line}\n", encoding="ascii")
+        program.chmod(0o755)
+        begin = time.monotonic()
+        status, out, messages = labask(question, WORLD, "--labsys", program)
+        good = messages.endswith(f"{said}\n") and messages.count("\n") == 1 and time.monotonic() - begin < 20
+        if (status, out) != (70, "") or not good:
+            yield f"{name}: status {status}: {out}{messages}"
+    for name, content, mode in (("text", b"hello\n", 0o755), ("broken", b"#!/none/sh\n", 0o755), ("closed", b"#!/bin/sh\n", 0o644)):
+        (folder / name).write_bytes(content)
+        (folder / name).chmod(mode)
+        yield from word_faults([(("check", WORLD, "--labsys", folder / name), 70, f"{folder / name}")])
+    yield from word_faults([(("check", WORLD, "--labsys", folder), 70, f"there is no program {folder}")])
+
+
+TESTS = (number_faults, tag_faults, empty_faults, order_faults, program_faults)
 
 
 def main():
