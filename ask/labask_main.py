@@ -51,6 +51,13 @@ class QuestionParser(argparse.ArgumentParser):
         self.print_usage(sys.stderr)
         self.exit(USAGE, f"{self.prog}: {message}\n")
 
+    def _print_message(self, message, file=None):
+        """As that of the base class, which passes over faults of writing; help that can't be written is none."""
+        if file is sys.stdout:
+            file.write(message)
+        else:
+            super()._print_message(message, file)
+
     def parse_known_args(self, args=None, namespace=None):
         """As that of the base class, with the arguments of the question, between whose words options may stand."""
         if self.question is not None:
@@ -96,11 +103,35 @@ def say_refusal(arguments: argparse.Namespace, refused: Refused) -> None:
         print(line, file=sys.stderr)
 
 
-def main(words: Optional[Sequence[str]] = None) -> int:
-    """Answers the question of a command line, and gives the exit status."""
-    arguments = make_parser().parse_args(words)
+def fill_descriptors() -> None:
+    """Puts a file at each standard descriptor that is closed, so that no other file takes its place.
+
+    What is read or written there fails then, as before; but messages go nowhere.
+    """
+    for name, mode, flags in (("stdin", "r", os.O_WRONLY), ("stdout", "w", os.O_RDONLY), ("stderr", "w", os.O_WRONLY)):
+        if getattr(sys, name) is None:
+            setattr(sys, name, open(os.open(os.devnull, flags), mode, encoding="utf-8"))
+
+
+def discard_output() -> None:
+    """Has what is left of the answer go nowhere, which Python would try to write once more at its end."""
+    os.dup2(os.open(os.devnull, os.O_WRONLY), sys.stdout.fileno())
+
+
+def answered(words: Optional[Sequence[str]]) -> int:
+    """Answers the question of a command line, and gives the exit status. Also the answer to `--help` is written at once."""
     try:
+        arguments = make_parser().parse_args(words)
         return arguments.answer(arguments, Player([find_program(arguments.labsys)]))
+    finally:
+        sys.stdout.flush()
+
+
+def main(words: Optional[Sequence[str]] = None) -> int:
+    """Answers the question of a command line, and gives the exit status; says on standard error why there is no answer."""
+    fill_descriptors()
+    try:
+        return answered(words)
     except Refused as refused:
         say_refusal(arguments, refused)
         return REFUSED
@@ -111,10 +142,12 @@ def main(words: Optional[Sequence[str]] = None) -> int:
         print(f"labask: {fault}", file=sys.stderr)
         return USAGE
     except BrokenPipeError:
-        os.dup2(os.open(os.devnull, os.O_WRONLY), sys.stdout.fileno())
+        discard_output()
         return DONE
     except OSError as fault:
         print(f"labask: {fault.filename or 'standard output'}: {fault.strerror}", file=sys.stderr)
+        if not fault.filename:
+            discard_output()
         return USAGE
 
 

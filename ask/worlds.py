@@ -422,4 +422,9 @@ def read_world(text: bytes) -> World:
 
 def read_file(name: str) -> bytes:
     """The bytes of a file; `-` is standard input."""
-    return sys.stdin.buffer.read() if name == "-" else pathlib.Path(name).read_bytes()
+    if name != "-":
+        return pathlib.Path(name).read_bytes()
+    try:
+        return sys.stdin.buffer.read()
+    except OSError as fault:
+        raise OSError(fault.errno, fault.strerror, "standard input") from fault

@@ -2,14 +2,18 @@
 """Tests words of the command line that name nothing, or stand in another order, and files and programs that are not what is due."""
 import itertools
 import pathlib
+import shlex
+import subprocess
+import sys
 import tempfile
 import time
 
-from support import EXAMPLES, labask, report
+from support import EXAMPLES, HERE, labask, report
 
 import playing
 from playing import find_program
 
+LABASK = HERE.parent / "labask"
 WORLD = EXAMPLES[0].parent / "lesson.txt"
 
 
@@ -97,7 +101,29 @@ def program_faults(folder):
     yield from word_faults([(("check", WORLD, "--labsys", folder), 70, f"there is no program {folder}")])
 
 
-TESTS = (number_faults, tag_faults, empty_faults, order_faults, program_faults)
+def descriptor_faults(folder):
+    """With closed standard descriptors, or a full device, there is the answer, or a message and a status other than 0."""
+    full = "standard output: No space left on device"
+    no_output, no_input = ("standard output: Bad file descriptor", "standard input: Bad file descriptor")
+    due = [("check W", closed, 0, "") for closed in ("0<&-", "2>&-", "0<&- 2>&-")]
+    asked = ("check W", "check W --json", "who W", "why W", "page W", "world D", "--help")
+    due += [(question, "1>&-", 1, no_output) for question in asked]
+    due += [(question, "0<&- 1>&- 2>&-", 1, "") for question in ("check W", "page W", "who --help")]
+    due += [(question, ">/dev/full", 1, full) for question in ("who W --json", "page W", "--help")]
+    due += [("check -", "0<&-", 1, no_input), ("check -", "0<&- 2>&-", 1, ""), ("check W none", "2>&-", 1, ""),
+            ("page W --output O", "0<&- 1>&-", 0, ""), ("check W --labsys /none", "0<&- 1>&- 2>&-", 70, "")]
+    names = {"W": WORLD, "D": folder, "O": folder / "page.html"}
+    for question, closed, status, said in due:
+        words = [sys.executable, LABASK, *(names.get(word, word) for word in question.split())]
+        command = f"{shlex.join(map(str, words))} {closed}"
+        done = subprocess.run(["sh", "-c", command], stdin=subprocess.DEVNULL, stdout=subprocess.PIPE, stderr=subprocess.PIPE,
+                              check=False)
+        good = bool(done.stdout) == (status == 0 and "1>" not in closed)
+        if done.returncode != status or not good or done.stderr.decode() != (f"labask: {said}\n" if said else ""):
+            yield f"{question} {closed}: status {done.returncode}: {done.stdout[:99]} {done.stderr.decode()}"
+
+
+TESTS = (number_faults, tag_faults, empty_faults, order_faults, program_faults, descriptor_faults)
 
 
 def main():
