@@ -1,10 +1,12 @@
 """The question `page`: one page of HTML with the run of a world. The page needs no network and no other file."""
 import argparse
+import os
 import pathlib
+import stat
 import sys
 from typing import Any, Dict, Iterator, Optional, Sequence
 
-from answers import write_json
+from answers import WrongWords, write_json
 from page_parts.lanes import MOST_LANES, make_lanes, pattern_rules
 from page_parts.markup import embedded, text
 from page_parts.rights import rights_section
@@ -123,8 +125,20 @@ def write_page(page: str, output: Optional[str]) -> None:
         pathlib.Path(output).write_bytes(data)
 
 
+def refuse_same_file(file: str, output: str) -> None:
+    """Refuses to write the page to the file that is read."""
+    try:
+        read, written = os.fstat(sys.stdin.fileno()) if file == "-" else os.stat(file), os.stat(output)
+    except OSError:
+        return
+    if stat.S_ISREG(written.st_mode) and os.path.samestat(read, written):
+        raise WrongWords(f"{output} is the file that is read, and the page would overwrite it")
+
+
 def answer(arguments: argparse.Namespace, player: Player) -> int:
     """Answers the question."""
+    if arguments.output is not None:
+        refuse_same_file(arguments.file, arguments.output)
     text = read_file(arguments.file)
     player.check(text)
     world = read_world(text)

@@ -10,12 +10,14 @@ import contextlib
 import html.parser
 import io
 import json
+import os
 import pathlib
 import re
+import subprocess
 import sys
 import tempfile
 
-from page_inputs import EXAMPLES, LABSYS, Failure, examples, inputs, labask, labsys, make_page, reply_lines, require, trail_of
+from page_inputs import ASK, EXAMPLES, LABSYS, Failure, examples, inputs, labask, labsys, make_page, reply_lines, require, trail_of
 
 import labask_main
 from page_parts.lanes import LaneKind, Lanes, make_patterns, stretches
@@ -202,6 +204,26 @@ def test_words(folder):
     return "words of the command line"
 
 
+def test_same_file(folder):
+    """The file that is read is not overwritten, by whichever name it goes; another file is."""
+    text = (EXAMPLES / "lesson.txt").read_bytes()
+    world, link, second, page = (folder / name for name in ("same.txt", "link", "second", "page.html"))
+    world.write_bytes(text)
+    link.symlink_to(world)
+    os.link(world, second)
+    for file in (world, link, second, "-"):
+        for output in (world, link, second):
+            with open(world, "rb") as given:
+                done = subprocess.run([sys.executable, ASK / "labask", "--labsys", LABSYS, "page", file, "--output", output],
+                                      stdin=given, stdout=subprocess.PIPE, stderr=subprocess.PIPE, check=False)
+            require(done.returncode == 1 and b"is the file that is read" in done.stderr, f"{file} --output {output}: {done.stderr}")
+    require(world.read_bytes() == text, "the file that is read is as it was")
+    page.write_bytes(text)
+    status = labask("page", str(world), "--output", str(page))[0]
+    require(status == 0 and page.read_bytes() != text, "another file with these bytes")
+    return "the file that is read is not overwritten"
+
+
 def test_json(folder):
     """The run as JSON, against `view` and the trail."""
     for path in examples():
@@ -284,7 +306,7 @@ def test_size(folder):
     return f"a page of 10,000 calls has {size:,} bytes"
 
 
-TESTS = (test_escapes, test_words, test_json, test_sets, test_lanes, test_size, test_inputs)
+TESTS = (test_escapes, test_words, test_same_file, test_json, test_sets, test_lanes, test_size, test_inputs)
 
 
 def main():
