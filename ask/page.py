@@ -7,6 +7,7 @@ import sys
 from typing import Any, Dict, Iterator, Optional, Sequence
 
 from answers import WrongWords, write_json
+from label_texts import form_fault
 from page_parts.lanes import MOST_LANES, make_lanes, pattern_rules
 from page_parts.markup import embedded, text
 from page_parts.rights import rights_section
@@ -18,7 +19,7 @@ from page_parts.views import Ranks, View, label_of, named_labels, views_of
 from page_parts.words import caps_of, check_text
 from playing import Outcome, Player
 from reasons import error_in_words
-from worlds import read_file, read_world
+from worlds import World, read_file, read_world
 
 HERE = pathlib.Path(__file__).resolve().parent
 MOST_VIEWS = 64
@@ -125,6 +126,14 @@ def write_page(page: str, output: Optional[str]) -> None:
         pathlib.Path(output).write_bytes(data)
 
 
+def chosen(world: World, labels: Sequence[str]) -> Iterator[str]:
+    """The canonical texts of the labels that the command line names; one without the form of a label is refused here."""
+    for label in labels:
+        for fault in form_fault(label):
+            raise WrongWords(f"the world has no label {label!r}: {fault.message}")
+        yield world.policy.canonical(label)
+
+
 def refuse_same_file(file: str, output: str) -> None:
     """Refuses to write the page to the file that is read."""
     try:
@@ -144,7 +153,7 @@ def answer(arguments: argparse.Namespace, player: Player) -> int:
     world = read_world(text)
     run = play_run(player, world)
     named = named_labels(run)
-    labels = list(map(world.policy.canonical, arguments.labels)) or named[:MOST_VIEWS]
+    labels = list(chosen(world, arguments.labels)) or named[:MOST_VIEWS]
     ranks = Ranks(player, run, named)
     views = views_of(player, run, ranks, labels)
     if arguments.json:

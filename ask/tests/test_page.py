@@ -194,6 +194,9 @@ def test_words(folder):
     require(re.findall(r'<option value="(\w+)">\1<', one) == ["secret"] and "1 more label;" in one, "one label")
     status, _, messages = labask("page", example, "--label", "top")
     require(status == 1 and "top" in messages, "a label that the world does not have")
+    for label in ("", "-", "--help", "secret:", "secret top", "9", b"\xff", "sécret", "x" * 40, "secret\n"):
+        status, out, messages = labask("page", example, b"--label=" + label if isinstance(label, bytes) else f"--label={label}")
+        require(status == 1 and not out and messages.startswith("labask: the world has no label "), f"label {label!r}: {messages}")
     require(labask("page")[0] == 1 and labask("page", example + ".none")[0] == 1, "wrong words")
     require(labask("page", "--help")[0] == 0 and b"PAGE.html" in labask("page", "--help")[1], "help")
     status, _, messages = labask("--labsys", "/nonexistent/labsys", "page", example)
