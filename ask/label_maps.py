@@ -2,7 +2,7 @@
 from dataclasses import dataclass, field
 from typing import Dict, List, Tuple
 
-from worlds import Line, canonical_path, parent_path, read_file, read_world
+from worlds import Line, canonical_path, parent_path, path_word, read_file, read_world
 
 LOWEST_ALONE = ("world 2", "levels base", "categories", "bound all")
 NAMES = ("levels", "categories", "grades", "bound")
@@ -14,7 +14,8 @@ class LabelFault(Exception):
 
 @dataclass(frozen=True)
 class LabelMap:
-    """The lines of a policy, with `world 2` first, the lines of the file that they come from, and the labels of paths."""
+    """The lines of a policy, with `world 2` first, the lines of the file that they come from, and the words for the labels
+    of paths."""
     policy: Tuple[str, ...] = LOWEST_ALONE
     sources: Tuple[str, ...] = ()
     labels: Dict[bytes, str] = field(default_factory=dict)
@@ -61,7 +62,7 @@ def read_labels(name: str) -> LabelMap:
             path = canonical_path(line.words[1].value)
             if path in labels:
                 raise LabelFault(f"{at}: the path has a label already, at {named_at[path]}")
-            labels[path], named_at[path] = words[2], at
+            labels[path], named_at[path] = path_word(line.words[2].value), at
         elif words and words != ["world", "2"]:
             raise LabelFault(f"{at}: expected levels, categories, grades or bound once each, or label PATH LABEL")
     if len(policy.get("levels", ("",))[0].split()) < 2:

@@ -145,11 +145,11 @@ def write_tree(writing: Writing, reading: Reading) -> None:
 
 def write_process(writing: Writing, proc: Proc) -> str:
     """Writes a process, and gives its tag."""
-    label = proc.label or writing.labels.lowest
+    label = path_word(os.fsencode(proc.label)) if proc.label else writing.labels.lowest
     for note in proc.notes:
         writing.comment(note)
     groups = ",".join(map(str, proc.groups)) or "-"
-    writing.lines.append(f"proc {label} {proc.user} {proc.group} {groups} {quoted(proc.caps.encode('latin-1'))}")
+    writing.lines.append(f"proc {label} {proc.user} {proc.group} {groups} {quoted(os.fsencode(proc.caps))}")
     writing.tags[label] += 1
     return f"{writing.tags[label]}@{label}"
 

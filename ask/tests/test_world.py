@@ -278,6 +278,19 @@ def check_own(folder):
         labask("world", tree, "--proc", text, status=1)
 
 
+def check_bytes_of_words(folder):
+    """Bytes of the command line, or of a map of labels, that no label and no capability has: `labsys` refuses their line."""
+    tree, labels = folder / "own", folder / "odd.txt"
+    odd = os.fsdecode(b"\xff\n")
+    for text, line in ((f"1:2:3:{odd}", 'proc base 1 2 3 "\\xff\\x0a"'), (f"1:2:-:=:{odd}", 'proc "\\xff\\x0a" 1 2 - "="'),
+                       ("1:2:-:é", 'proc base 1 2 - "\\xc3\\xa9"'), ("1:2:-:=:base 0", 'proc "base 0" 1 2 - "="')):
+        world, messages = labask("world", tree, "--proc", text, status=2)
+        holds(world == b"" and messages.startswith(f"labask: {line}: refused, ") and messages.count("\n") == 1, messages)
+    labels.write_text("levels base\ncategories\nlabel / \"\\xff b\"\n")
+    world, messages = labask("world", tree, "--labels", labels, "--proc", "1:2:-:=", status=2)
+    holds(world == b"" and messages.startswith(f'labask: /: label "\\xff b" of {labels}:3: refused, '), messages)
+
+
 def check_versions(folder):
     """The versions of the attribute: of the third the sets count where their user is root."""
     first = read_attribute(struct.pack("<3I", 0x01000001, KILL, 0))
@@ -311,8 +324,8 @@ def main():
     with tempfile.TemporaryDirectory(prefix="labask-") as name:
         folder = pathlib.Path(name)
         objects, capabilities = check_tree(folder)
-        for check in (check_bytes, check_unfit, check_long_path, check_labels, check_links, check_own, check_versions, check_json,
-                      check_many):
+        for check in (check_bytes, check_unfit, check_long_path, check_labels, check_links, check_own, check_bytes_of_words,
+                      check_versions, check_json, check_many):
             check(folder)
     without = "" if shutil.which("setcap") else "; without setcap, which Debian has in its package libcap2-bin"
     print(f"{objects} objects of a tree, {capabilities} with capabilities; {checked} comparisons{without}")
