@@ -14,6 +14,7 @@ from answers import WrongWords
 from command_words import named
 from playing import Player, PlayingFault, Refused, find_program
 
+VERSION = "1.0.0"  # that of docs/version.txt, which is not installed
 DONE = 0
 USAGE = 1
 REFUSED = 2
@@ -38,8 +39,8 @@ QUESTIONS = {
     "trace": Question("trace", "script lines made from a log of strace"),
 }
 ENDING = """\
-Exit status: 0 where the question was answered, 1 for a wrong command line or a file that can't be read, 2 where labsys refuses
-the input, and 70 where labsys is missing, is another program, or fails."""
+Exit status: 0 where the question was answered, 1 for a wrong command line, a file that can't be read or an answer that can't be
+written, 2 where labsys refuses the input, and 70 where labsys is missing, is another program, or fails."""
 
 
 class QuestionParser(argparse.ArgumentParser):
@@ -88,6 +89,7 @@ def make_parser() -> QuestionParser:
     parser = QuestionParser(prog="labask", epilog=ENDING, formatter_class=argparse.RawDescriptionHelpFormatter,
                             description="Answers questions about a world by playing calls with labsys.")
     add_program(parser, None)
+    parser.add_argument("--version", action="version", version=f"labask {VERSION}", help="print the version and end")
     questions = parser.add_subparsers(metavar="QUESTION", required=True)
     for name, question in QUESTIONS.items():
         made = questions.add_parser(name, help=question.help, description=question.help[0].upper() + question.help[1:] + ".")

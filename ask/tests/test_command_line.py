@@ -8,13 +8,13 @@ import sys
 import tempfile
 import time
 
-from support import EXAMPLES, HERE, labask, report
+from support import HERE, TOP, labask, report
 
 import playing
 from playing import find_program
 
 LABASK = HERE.parent / "labask"
-WORLD = EXAMPLES[0].parent / "lesson.txt"
+WORLD = TOP / "examples" / "lesson.txt"
 
 
 def word_faults(due):
@@ -123,7 +123,15 @@ def descriptor_faults(folder):
             yield f"{question} {closed}: status {done.returncode}: {done.stdout[:99]} {done.stderr.decode()}"
 
 
-TESTS = (number_faults, tag_faults, empty_faults, order_faults, program_faults, descriptor_faults)
+def version_faults(_):
+    """The version is that of the repository, and needs no program."""
+    due = (TOP / "docs" / "version.txt").read_text(encoding="ascii").replace("labsys", "labask")
+    for words in (("--version",), ("--labsys", "/none", "--version")):
+        if labask(*words) != (0, due, ""):
+            yield f"{words}: {labask(*words)}, not {due}"
+
+
+TESTS = (number_faults, tag_faults, empty_faults, order_faults, program_faults, descriptor_faults, version_faults)
 
 
 def main():
