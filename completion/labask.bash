@@ -1,0 +1,39 @@
+# Completion of labask for bash.
+_labask() {
+    local word=${COMP_WORDS[COMP_CWORD]} before=${COMP_WORDS[COMP_CWORD - 1]} question='' options at
+    COMPREPLY=()
+    for ((at = 1; at < COMP_CWORD; at++)); do
+        case ${COMP_WORDS[at]} in
+        --labsys) at=$((at + 1)) ;;
+        -*) ;;
+        *)
+            question=${COMP_WORDS[at]}
+            break
+            ;;
+        esac
+    done
+    case $question in
+    '') options="--labsys --help --version" ;;
+    who) options="--process" ;;
+    why) options="--against" ;;
+    flow) options="--depth --without" ;;
+    cuts) options="--apply" ;;
+    page) options="--output --label" ;;
+    world) options="--bytes --proc --labels --root-user" ;;
+    trace) options="--directory --as --start --umask" ;;
+    esac
+    case $before in
+    --json | --help | --version) ;;
+    --*) return ;; # its value, which may be the name of a file
+    esac
+    if [ -z "$question" ]; then
+        mapfile -t COMPREPLY < <(compgen -W "check who why flow cuts page world trace $options" -- "$word")
+    elif [[ $word = -* ]]; then
+        mapfile -t COMPREPLY < <(compgen -W "$options --json --labsys --help" -- "$word")
+    elif [ "$question" = world ]; then
+        compopt -o filenames
+        mapfile -t COMPREPLY < <(compgen -d -- "$word")
+    fi
+}
+# Elsewhere the names of files are completed.
+complete -o default -F _labask labask
