@@ -1,8 +1,9 @@
 """The question `check`: whether `labsys` accepts a file, and what is wrong with a line that it has refused."""
 import argparse
 from dataclasses import dataclass
-from typing import Dict, Iterator, List, Optional, Set
+from typing import Dict, Iterator, List, Optional, Sequence, Set, Tuple
 
+from advice import advice_on
 from answers import write_json
 from explaining import explain_line
 from playing import Played, Player, Refusal, Refused, Reply
@@ -14,15 +15,16 @@ WIDTH = 110
 
 @dataclass(frozen=True)
 class Explanation:
-    """A refused line: its number, the fault, the text of the line, and the columns of the mark, from 0."""
+    """A refused line: its number, the fault, its text, the columns of the mark, from 0, and lines to write in its place, if any."""
     line: int
     message: str
     text: bytes
     column: int
     length: int
+    instead: Tuple[bytes, ...] = ()
 
     def lines(self, name: str) -> List[str]:
-        """The explanation as text: the message, the line, and a mark below the word."""
+        """The explanation as text: the message, the line, a mark below the word, and what to write."""
         head = f"{name}:{self.line}: {self.message}"
         if not self.text:
             return [head]
@@ -32,7 +34,8 @@ class Explanation:
         after = " ..." if begin + WIDTH < len(self.text) else ""
         shown = "".join(chr(byte) if 0x20 <= byte <= 0x7e else "?" for byte in piece)
         mark = "^" * max(1, min(self.length, begin + WIDTH - self.column))
-        return [head, f"  {before}{shown}{after}", " " * (2 + len(before) + self.column - begin) + mark]
+        written = [f"  write: {line.decode('ascii')}" for line in self.instead]
+        return [head, f"  {before}{shown}{after}", " " * (2 + len(before) + self.column - begin) + mark, *written]
 
 
 def add_arguments(parser: argparse.ArgumentParser) -> None:
@@ -46,30 +49,50 @@ def first_lines(text: bytes, count: int) -> bytes:
     return text if len(pieces) <= count else text[:len(text) - len(pieces[count])]
 
 
-def explanation(text: bytes, refusal: Refusal) -> Explanation:
-    """What is wrong with the line of a refusal."""
+def accepts(player: Player, text: bytes, number: int, lines: Sequence[bytes]) -> bool:
+    """Whether `labsys` accepts lines in place of that of a number, and what stands before it."""
+    if any(not 0x20 <= byte <= 0x7e for line in lines for byte in line):
+        return False
+    try:
+        player.check(first_lines(text, number - 1) + b"".join(line + b"\n" for line in lines))
+    except Refused as refused:
+        return refused.refusal is not None and refused.refusal.line >= number + len(lines)
+    return True
+
+
+def explanation(text: bytes, refusal: Refusal, player: Player) -> Explanation:
+    """What is wrong with the line of a refusal: a usual slip, or else the fault that the refusal names."""
     world = read_world(first_lines(text, refusal.line))
+    line = world.lines[refusal.line - 1] if refusal.line <= len(world.lines) else None
+    for advice in advice_on(world, line, refusal.part) if line and refusal.part in ("world", "script") else ():
+        instead = advice.instead if advice.instead and accepts(player, text, refusal.line, advice.instead) else ()
+        if instead or not advice.doubtful:
+            return Explanation(refusal.line, advice.message, line.text, advice.column, advice.length, instead)
     finding = explain_line(world, refusal.line, refusal.part, refusal.word)
-    shown = world.lines[refusal.line - 1].text if refusal.line <= len(world.lines) else b""
-    return Explanation(refusal.line, finding.message, shown, finding.column, finding.length)
+    return Explanation(refusal.line, finding.message, line.text if line else b"", finding.column, finding.length)
 
 
-def explain(text: bytes, refusal: Optional[Refusal], name: str) -> List[str]:
+def explain(text: bytes, refusal: Optional[Refusal], name: str, player: Player) -> List[str]:
     """Lines that say what is wrong with a refused text; the last one is the refusal of `labsys`."""
     if refusal is None:
         return [f"{name}: the input has {len(text):,} bytes; at most {MAX_INPUT:,}", "labsys: too long"]
     if refusal.line == 0:
         return [f"labsys: {refusal}"]
-    return [*explanation(text, refusal).lines(name), f"labsys: {refusal}"]
+    return [*explanation(text, refusal, player).lines(name), f"labsys: {refusal}"]
 
 
-def refusal_as_json(text: bytes, refusal: Optional[Refusal]) -> Dict[str, object]:
+def refusal_as_json(text: bytes, refusal: Optional[Refusal], player: Player) -> Dict[str, object]:
     """The answer about a refused text; columns count from 1."""
     if refusal is None:
         return {"accepted": False, "message": f"the input has more than {MAX_INPUT} bytes"}
-    found = explanation(text, refusal)
-    return {"accepted": False, "line": refusal.line, "part": refusal.part, "word": refusal.word, "message": found.message,
-            "text": found.text.decode("latin-1"), "column": found.column + 1, "length": found.length}
+    return {"accepted": False, **fault_as_json(refusal, explanation(text, refusal, player))}
+
+
+def fault_as_json(refusal: Refusal, found: Explanation) -> Dict[str, object]:
+    """An explained refusal; columns count from 1."""
+    return {"line": refusal.line, "part": refusal.part, "word": refusal.word, "message": found.message,
+            "text": found.text.decode("latin-1"), "column": found.column + 1, "length": found.length,
+            "write": [line.decode("ascii") for line in found.instead]}
 
 
 @dataclass(frozen=True)
@@ -136,9 +159,9 @@ def answer(arguments: argparse.Namespace, player: Player) -> int:
         objects, processes, calls = player.check(text)
     except Refused as refused:
         if arguments.json:
-            write_json(refusal_as_json(text, refused.refusal))
+            write_json(refusal_as_json(text, refused.refusal, player))
         else:
-            print("\n".join(explain(text, refused.refusal, arguments.file)))
+            print("\n".join(explain(text, refused.refusal, arguments.file, player)))
         return REFUSED
     played = player.play_accepted(text) if calls else None
     missing = list(without_process(read_world(text), played, player)) if played and b" ESRCH\n" in played.out else []

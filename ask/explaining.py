@@ -292,18 +292,24 @@ def format_findings(line: Line) -> Iterator[Finding]:
             yield on_word("syntax", "word 2", word, "expected 2")
 
 
+def due_keywords(world: World, line: Line) -> Tuple[str, ...]:
+    """The keywords of which one is due at a line before those of objects and processes; none at these."""
+    before = [each.words[0].text for each in world.lines.filled() if each.number < line.number]
+    due: List[Tuple[str, ...]] = [("world",), ("levels",), ("categories",), ("grades", "bound")]
+    due += [("bound",)] if "grades" in before[:4] else []
+    return due[len(before)] if len(before) < len(due) else ()
+
+
 def world_findings(world: World, line: Line) -> Iterator[Finding]:
     """Faults of a line before that of `script`, or of this one."""
     yield from line_findings(line)
     if not line.words:
         return
-    before = [each.words[0].text for each in world.lines.filled() if each.number < line.number]
-    due: List[Tuple[str, ...]] = [("levels",), ("categories",), ("grades", "bound")]
-    due += [("bound",)] if "grades" in before[:4] else []
-    if not before:
+    due = due_keywords(world, line)
+    if due == ("world",):
         yield from format_findings(line)
-    elif len(before) <= len(due):
-        yield from head_findings(line, due[len(before) - 1])
+    elif due:
+        yield from head_findings(line, due)
     else:
         yield from object_findings(world, line)
 
@@ -315,6 +321,8 @@ def tag_message(text: str, policy: Policy) -> Optional[str]:
     number, at, label = text.partition("@")
     if not at:
         return "expected n@label"
+    if not number:
+        return "the number is missing before @; expected n@label"
     if not TAG_NUMBER.fullmatch(number) or not 1 <= int(number) <= MAX_PROCESS_NUMBER:
         return f"processes are numbered from 1 to {MAX_PROCESS_NUMBER:,}; expected n@label"
     return next((fault.message for fault in label_faults(label, policy)), None)

@@ -101,7 +101,8 @@ def say_refusal(arguments: argparse.Namespace, refused: Refused) -> None:
     """Writes to standard error which line was refused, and what is wrong with it."""
     import check
 
-    for line in check.explain(refused.text, refused.refusal, getattr(arguments, "file", "input")):
+    player = Player([find_program(arguments.labsys)])
+    for line in check.explain(refused.text, refused.refusal, getattr(arguments, "file", "input"), player):
         print(line, file=sys.stderr)
 
 

@@ -9,6 +9,7 @@ import tempfile
 from support import EXAMPLES, TOP, labask, player, report, seeds
 
 import check
+import elsewhere
 import mistakes
 from playing import Refused
 from signatures import CALLS, CAPABILITIES, LINES, UTILITIES
@@ -23,6 +24,93 @@ MESSAGES = [
     ("script", "1@secret:eng open /a rwc", "FLAGS has c, so MODE is due", "rwc"),
     ("world", 'proc public 0 0 - "cap_kill=e"', "effective but not permitted: cap_kill", '"cap_kill=e"'),
 ]
+TAG = "1@secret:eng"
+NO_TAG = "the tag n@label is missing before the call"
+COMMENT = "a comment is a line of its own"
+OF_WORLD = "a line of the world, which stands before the line script, line 9"
+OF_PROGRAMS = "a line of programs, which labsys sched reads"
+SPACED = "with a space is quoted"
+# usual slips: a line of a world or of a script, a part of the message, what is marked, and the lines to write
+SLIPS = [
+    ("script", "open /a r", NO_TAG, "open", [f"{TAG} open /a r"]),
+    ("script", "getpid", NO_TAG, "getpid", [f"{TAG} getpid"]),
+    ("script", "rename stat /b", NO_TAG, "rename", [f"{TAG} rename stat /b"]),
+    ("script", "open /a wr", NO_TAG, "open", []),
+    ("script", "ls /eng", f"{NO_TAG}; here it is readdir PATH", "ls", [f"{TAG} readdir /eng"]),
+    ("script", f"{TAG} getpid # who", COMMENT, "# who", ["# who", f"{TAG} getpid"]),
+    ("script", f"{TAG} open /a r # read it", COMMENT, "# read it", ["# read it", f"{TAG} open /a r"]),
+    ("script", f"{TAG} mkdir #a u+x", "expected 1 to 4 octal digits", "u+x", []),
+    ("world", "dir /a 0755 0 0 public # news", COMMENT, "# news", ["# news", "dir /a 0755 0 0 public"]),
+    ("world", 'file /a 0644 0 0 public "x" # news', COMMENT, "# news", ["# news", 'file /a 0644 0 0 public "x"']),
+    ("script", "dir /a 0755 0 0 public", OF_WORLD, "dir", []),
+    ("script", "levels a b", OF_WORLD, "levels", []),
+    ("script", "script", OF_WORLD, "script", []),
+    *(("script", line, OF_PROGRAMS, line.split()[0], []) for line in
+      ("slices public", "rounds 3", "program 1@public", "do getpid", "jump always 0", "stop")),
+    ("world", f"{TAG} getpid", "a call, which stands after the line script", TAG, []),
+    ("world", "slices public", "a line of programs, which stands after the line script", "slices", []),
+    ("script", f"{TAG} write 0 'two words'", "a word is quoted by \", and not by '", "'two words'", [f'{TAG} write 0 "two words"']),
+    ("script", f"{TAG} write 0 \u201ctwo words\u201d", "not by curved quotes", "???", [f'{TAG} write 0 "two words"']),
+    ("world", "file /a 0644 0 0 public 'two words'", "not by '", "'two words'", ['file /a 0644 0 0 public "two words"']),
+    ("world", "file /a 0644 0 0 public two words", f"a content {SPACED}", "two words", ['file /a 0644 0 0 public "two words"']),
+    ("world", "file /a 0644 0 0 public so  many words", f"a content {SPACED}", "so  many words",
+     ['file /a 0644 0 0 public "so  many words"']),
+    ("world", 'file /a 0644 0 0 public two words "cap_kill=p"', f"a content {SPACED}", "two words",
+     ['file /a 0644 0 0 public "two words" "cap_kill=p"']),
+    ("world", "dir /a b 0755 0 0 public", f"a path {SPACED}", "/a b", ['dir "/a b" 0755 0 0 public']),
+    ("script", f"{TAG} open /a b r", f"a path {SPACED}", "/a b", [f'{TAG} open "/a b" r']),
+    ("script", f"{TAG} write 0 two words", f"a content {SPACED}", "two words", [f'{TAG} write 0 "two words"']),
+    ("script", f"{TAG} stat /a /b", "one too many", "/b", []),
+    ("script", f"{TAG} chmod /a 0644 0", "one too many", "0", []),
+    ("script", f"{TAG} cap_set_proc cap_kill=p cap_chown=p", "more than one clause is quoted", "cap_kill=p cap_chown=p",
+     [f'{TAG} cap_set_proc "cap_kill=p cap_chown=p"']),
+    ("script", f"{TAG} cap_set_proc cap_kill, cap_chown=p", "a list has commas without spaces", "cap_kill,",
+     [f"{TAG} cap_set_proc cap_kill,cap_chown=p"]),
+    ("world", 'proc public 0 0 2, 3 "="', "groups have commas between them, without spaces", "2, 3", ['proc public 0 0 2,3 "="']),
+    ("world", 'proc public 0 0 2 3 4 "="', "groups have commas between them", "2 3 4", ['proc public 0 0 2,3,4 "="']),
+    ("world", 'proc secret:eng, legal 0 0 - "="', "a list has commas without spaces", "secret:eng,",
+     ['proc secret:eng,legal 0 0 - "="']),
+    ("world", '"file" /a 0644 0 0 public "x"', "a keyword is not quoted", '"file"', ['file /a 0644 0 0 public "x"']),
+    ("script", f'"{TAG}" getpid', "a tag is not quoted", f'"{TAG}"', [f"{TAG} getpid"]),
+    ("script", f'{TAG} "getpid"', "the word of a call is not quoted", '"getpid"', [f"{TAG} getpid"]),
+    ("script", f"{TAG} kill @secret:eng 0", "the number is missing before @; expected n@label", "@secret:eng",
+     [f"{TAG} kill {TAG} 0"]),
+    ("script", f"{TAG} kill @secret 0", "the number is missing before @; expected n@label", "@secret", []),
+    ("script", "@secret:eng getpid", "the number is missing before @; expected n@label", "@secret:eng", [f"{TAG} getpid"]),
+    ("script", f"{TAG} kill {TAG} SIGTERM", "the signal is written TERM here", "SIGTERM", [f"{TAG} kill {TAG} TERM"]),
+    ("script", f"{TAG} kill -9 {TAG}", "the number of the process comes before the signal", "-9", [f"{TAG} kill {TAG} KILL"]),
+    ("script", f"{TAG} open /a O_WRONLY|O_CREAT 0600", "flags are letters here: wc", "O_WRONLY|O_CREAT",
+     [f"{TAG} open /a wc 0600"]),
+    ("script", f'{TAG} open("/a", r);', "without parentheses and commas", 'open("/a", r);', [f'{TAG} open "/a" r']),
+    ("script", f"{TAG} OPEN /a r", "letter case counts; the call is open", "OPEN", [f"{TAG} open /a r"]),
+]
+# names elsewhere with arguments, a part of the message, and the calls to write
+ELSEWHERE = [
+    ("creat /a 0600", "here it is open PATH wct MODE", ["open /a wct 0600"]),
+    ("cat /a", "read FD N and close FD", ["open /a r"]),
+    ("ls -l /a", "here it is readdir PATH", ["readdir /a"]),
+    ("rm -f /a /b", "here it is unlink PATH", ["unlink /a", "unlink /b"]),
+    ("touch /a", "here it is open PATH wc MODE", ["open /a wc 0644"]),
+    ("mv /a /b", "here it is rename PATH PATH", ["rename /a /b"]),
+    ("ln /a /b", "here it is link PATH PATH", ["link /a /b"]),
+    ("getuid", "here it is getids", ["getids"]),
+    ("getgid", "here it is getids", ["getids"]),
+    ("setcap cap_kill=p /a", "here it is setfcap CAPS PATH ...", ["setfcap cap_kill=p /a"]),
+    ("getcap /a", "here it is getfcap PATH ...", ["getfcap /a"]),
+    ("setfacl -m u:1:r /a", "no access control lists", []),
+    ("chcon secret /a", "here it is setfmac LABEL PATH ...", ["setfmac secret /a"]),
+    ("sleep 1", "there are no times", []),
+    ("execve /a x y", "here it is exec PATH", ["exec /a"]),
+    ("openat AT_FDCWD /a O_RDONLY", "here it is open PATH FLAGS", ["open /a r"]),
+    ("stat64 /a", "here it is stat PATH", ["stat /a"]),
+    ("waitpid 2", "here it is wait", ["wait"]),
+    ("_exit 1", "here it is exit N", ["exit 1"]),
+    ("_exit", "here it is exit N", []),
+    ("chgrp 5 /a", "here it is chown PATH UID GID", []),
+    ("symlink /a /b", "no symbolic links", []),
+]
+SLIPS += [("script", f"{TAG} {call}", message, call.split()[0], [f"{TAG} {line}" for line in lines])
+          for call, message, lines in ELSEWHERE]
 
 
 def answer_about(text, folder):
@@ -49,6 +137,27 @@ def message_faults(folder):
         status, lines = answer_about(f"{before}{line}\n{'' if part == 'script' else 'script' + chr(10)}".encode(), folder)
         if status != 2 or lines[0] != f"world.txt:{number}: {message}" or marked(lines) != below:
             yield f"{line!r}: {lines}"
+
+
+def slip_faults(folder):
+    """The usual slips that are not explained as they should be, or whose lines to write are refused."""
+    world = mistakes.world_of((TOP / "docs" / "FORMATS.md").read_text())
+    for part, line, message, below, due in SLIPS:
+        before, behind = (world, "") if part == "script" else (world[:-len("script\n")], "script\n")
+        status, lines = answer_about(f"{before}{line}\n{behind}".encode(), folder)
+        written = [text[len("  write: "):] for text in lines[3:-1]]
+        if status != 2 or message not in lines[0] or marked(lines) != below or written != due:
+            yield f"{line!r}: {lines}"
+        if written:
+            status, lines = answer_about("".join([before, *(text + "\n" for text in written), behind]).encode(), folder)
+            if status != 0:
+                yield f"{written}: {lines}"
+
+
+def name_faults():
+    """Names elsewhere that are calls here, and calls that are to be written and are none."""
+    yield from (f"{name} is a call here" for name in sorted(elsewhere.NAMES & {*CALLS, *UTILITIES}))
+    yield from (f"{call} is no call here" for call in sorted(set(elsewhere.RENAMED.values()) - {*CALLS, *UTILITIES}))
 
 
 def mistake_faults(folder):
@@ -96,7 +205,7 @@ def broken_faults(counts):
             counts["accepted"] += 1
         except Refused as refused:
             counts["refused"] += 1
-            found = check.explain(text, refused.refusal, "world.txt")
+            found = check.explain(text, refused.refusal, "world.txt", asked)
             if not found[0].startswith(f"world.txt:{refused.refusal.line}: ") or NOTHING in found[0]:
                 yield f"seed {seed}: {refused}: {found}"
 
@@ -135,11 +244,13 @@ def no_process_faults(folder):
 def main():
     counts = {"refused": 0, "accepted": 0}
     with tempfile.TemporaryDirectory() as folder:
-        faults = [*message_faults(folder), *mistake_faults(folder), *table_faults(), *no_process_faults(folder)]
+        faults = [*message_faults(folder), *slip_faults(folder), *mistake_faults(folder), *table_faults(), *name_faults(),
+                  *no_process_faults(folder)]
     faults += broken_faults(counts)
     if counts["refused"] < BROKEN:
         faults.append(f"only {counts['refused']} texts were refused")
-    report(f"refused texts are explained at the line that labsys names, beside {len(MESSAGES)} messages and the usual mistakes",
+    report(f"refused texts are explained at the line that labsys names, beside {len(MESSAGES) + len(SLIPS)} messages and the "
+           "usual mistakes",
            counts["refused"] - len(faults), faults)
 
 
