@@ -22,7 +22,7 @@ SPACED = {"PATH": "a path with a space is quoted", "BYTES": "a content with a sp
 
 @dataclass(frozen=True)
 class Advice:
-    """A slip of a line: the columns of the mark, a message, and lines to write; one that is doubtful holds where they are accepted."""
+    """A slip of a line: the columns of the mark, a message, and lines to write; a doubtful one holds where they are accepted."""
     column: int
     length: int
     message: str

@@ -7,10 +7,12 @@ from advice import advice_on
 from answers import write_json
 from explaining import explain_line
 from playing import Played, Player, Refusal, Refused, Reply
+from mending import stand_ins
 from worlds import MAX_INPUT, World, read_file, read_world
 
 ACCEPTED, REFUSED = 0, 2
 WIDTH = 110
+MOST_FAULTS = 100
 
 
 @dataclass(frozen=True)
@@ -41,6 +43,7 @@ class Explanation:
 def add_arguments(parser: argparse.ArgumentParser) -> None:
     """Adds the arguments of the question."""
     parser.add_argument("file", metavar="FILE", help="the world, with or without a script; - is standard input")
+    parser.add_argument("--all", action="store_true", help="explain every line that is refused, and not the first alone")
 
 
 def first_lines(text: bytes, count: int) -> bytes:
@@ -93,6 +96,67 @@ def fault_as_json(refusal: Refusal, found: Explanation) -> Dict[str, object]:
     return {"line": refusal.line, "part": refusal.part, "word": refusal.word, "message": found.message,
             "text": found.text.decode("latin-1"), "column": found.column + 1, "length": found.length,
             "write": [line.decode("ascii") for line in found.instead]}
+
+
+@dataclass
+class Faults:
+    """The refused lines of a text, each explained, and whether the lines behind the last of them are accepted."""
+    found: List[Tuple[Refusal, Explanation]]
+    whole: bool = False
+
+    def lines(self, name: str) -> List[str]:
+        """The faults as text; the last line is the first refusal of `labsys`."""
+        shown = [line for _, found in self.found for line in found.lines(name)]
+        last = self.found[-1][0].line
+        if len(self.found) == MOST_FAULTS and not self.whole:
+            shown.append(f"More than {MOST_FAULTS} lines are not shown.")
+        elif not self.whole:
+            shown.append(f"The lines behind line {last} were not judged, since they depend on it.")
+        if len(self.found) > 1:
+            shown.append(f"{len(self.found)} lines are refused. Each was mended or left out to judge those behind it, so later "
+                         "faults may follow from earlier ones.")
+        return [*shown, f"labsys: {self.found[0][0]}"]
+
+
+def refusal_of(text: bytes, player: Player) -> Optional[Refusal]:
+    """The refusal of a text, or None where it is accepted; raises `Refused` where it is too long."""
+    try:
+        player.check(text)
+    except Refused as refused:
+        if refused.refusal is None:
+            raise
+        return refused.refusal
+    return None
+
+
+def go_on(text: bytes, refusal: Refusal, instead: Sequence[bytes], player: Player) -> Optional[Tuple[bytes, Optional[Refusal]]]:
+    """A text with a line in place of the refused one, and its refusal, which is of a later line; None where no line will do."""
+    before, through = first_lines(text, refusal.line - 1), first_lines(text, refusal.line)
+    world = read_world(through)
+    if refusal.line > len(world.lines):
+        return text, None
+    for line in stand_ins(world, world.lines[refusal.line - 1], refusal.part, instead):
+        changed = before + line + b"\n" + text[len(through):]
+        following = refusal_of(changed, player)
+        if following is None or following.line > refusal.line:
+            return changed, following
+    return None
+
+
+def every_fault(text: bytes, first: Refusal, player: Player) -> Faults:
+    """The refused lines of a text, from the first on."""
+    faults, refusal = Faults([]), first
+    while len(faults.found) < MOST_FAULTS:
+        found = explanation(text, refusal, player)
+        faults.found.append((refusal, found))
+        following = go_on(text, refusal, found.instead, player)
+        if following is None:
+            return faults
+        text, refusal = following
+        if refusal is None:
+            faults.whole = True
+            return faults
+    return faults
 
 
 @dataclass(frozen=True)
@@ -152,16 +216,23 @@ def counted(count: int, word: str, ending: str = "s") -> str:
     return f"{count} {word}{'' if count == 1 else ending}"
 
 
+def say_refused(arguments: argparse.Namespace, text: bytes, refusal: Optional[Refusal], player: Player) -> None:
+    """Writes the answer about a refused text."""
+    faults = every_fault(text, refusal, player) if arguments.all and refusal else None
+    if arguments.json:
+        whole = {"faults": [fault_as_json(*fault) for fault in faults.found], "whole": faults.whole} if faults else {}
+        write_json({**refusal_as_json(text, refusal, player), **whole})
+    else:
+        print("\n".join(faults.lines(arguments.file) if faults else explain(text, refusal, arguments.file, player)))
+
+
 def answer(arguments: argparse.Namespace, player: Player) -> int:
     """Answers the question."""
     text = read_file(arguments.file)
     try:
         objects, processes, calls = player.check(text)
     except Refused as refused:
-        if arguments.json:
-            write_json(refusal_as_json(text, refused.refusal, player))
-        else:
-            print("\n".join(explain(text, refused.refusal, arguments.file, player)))
+        say_refused(arguments, text, refused.refusal, player)
         return REFUSED
     played = player.play_accepted(text) if calls else None
     missing = list(without_process(read_world(text), played, player)) if played and b" ESRCH\n" in played.out else []

@@ -3,6 +3,7 @@
 
 The usual mistakes are those of docs/FORMATS.md; a thousand more texts are examples with a change from a seed.
 """
+import json
 import re
 import tempfile
 
@@ -113,6 +114,38 @@ SLIPS += [("script", f"{TAG} {call}", message, call.split()[0], [f"{TAG} {line}"
           for call, message, lines in ELSEWHERE]
 
 
+# worlds with faults in several lines: the numbers of these, and what the last line before the refusal says
+FAULTY = """\
+world 2
+levels public, secret
+categories
+bound cap_kill cap_chown
+dir / 0755 root root public
+dir /a 0755 0 0 public # news
+directory /b 0755 0 0 public
+file /b/c 0644 0 0 public two words
+file /b/d 0644 0 0 public "x"
+proc public 0 0 "="
+script
+1@public ls /
+# a comment
+1@public stat /b/d
+open /a r
+1@public getpid
+1@public open /a wr
+"""
+FOLLOW = "to judge those behind it, so later faults may follow from earlier ones."
+ALL = [
+    (FAULTY, [2, 4, 5, 6, 7, 8, 10, 12, 15, 17], f"10 lines are refused. Each was mended or left out {FOLLOW}"),
+    (FAULTY[:-1], [2, 4, 5, 6, 7, 8, 10, 12, 15, 17], FOLLOW),
+    (FAULTY.replace("bound cap_kill cap_chown\n", ""), [2, 4], FOLLOW),
+    (FAULTY.replace("levels public, secret", "levels public").replace("bound cap_kill cap_chown\n", ""), [4],
+     "The lines behind line 4 were not judged, since they depend on it."),
+    (FAULTY.split("script")[0], [2, 4, 5, 6, 7, 8, 10, 11], FOLLOW),
+    (FAULTY.split("1@public ls")[0] + "open\n" * 200, [2, 4, 5, 6, 7, 8, 10, *range(12, 105)], FOLLOW),
+]
+
+
 def answer_about(text, folder):
     """The exit status and the lines of `labask check` of a text."""
     path = f"{folder}/world.txt"
@@ -160,6 +193,22 @@ def name_faults():
     yield from (f"{call} is no call here" for call in sorted(set(elsewhere.RENAMED.values()) - {*CALLS, *UTILITIES}))
 
 
+def all_faults(folder):
+    """Whether `check --all` shows each faulty line, and says where it went no further."""
+    for text, numbers, last in ALL:
+        path = f"{folder}/world.txt"
+        with open(path, "w", encoding="ascii") as file:
+            file.write(text)
+        status, out, _ = labask("check", "--all", path)
+        lines = out.replace(path, "world.txt").splitlines()
+        shown = [int(found[1]) for found in (re.match(r"world\.txt:(\d+): ", line) for line in lines) if found]
+        if status != 2 or shown != numbers or last not in lines[-2] or not lines[-1].startswith(f"labsys: refused {numbers[0]} "):
+            yield f"--all: {lines}"
+        status, out, _ = labask("check", "--all", "--json", path)
+        if status != 2 or [fault["line"] for fault in json.loads(out)["faults"]] != numbers:
+            yield f"--all --json: {out}"
+
+
 def mistake_faults(folder):
     """The usual mistakes whose line or kind of fault is not found."""
     for text, last, shown in mistakes.mistakes_of((TOP / "docs" / "FORMATS.md").read_text()):
@@ -193,6 +242,14 @@ def broken(draw, texts):
     return b"\n".join(lines[:row] + [b" ".join(words)] + lines[row + 1:])
 
 
+def order_faults(faults):
+    """Faults that are not in the order of their lines, or that nothing explains."""
+    numbers = [refusal.line for refusal, _ in faults.found]
+    if numbers != sorted(set(numbers)):
+        yield f"lines {numbers}"
+    yield from (found.message for _, found in faults.found if NOTHING in found.message)
+
+
 def broken_faults(counts):
     """The broken texts whose line or kind of fault is not found; counts those that are refused and those that are not."""
     texts, asked = [path.read_bytes() for path in EXAMPLES], player()
@@ -208,6 +265,8 @@ def broken_faults(counts):
             found = check.explain(text, refused.refusal, "world.txt", asked)
             if not found[0].startswith(f"world.txt:{refused.refusal.line}: ") or NOTHING in found[0]:
                 yield f"seed {seed}: {refused}: {found}"
+            if counts["refused"] % 20 == 0:
+                yield from (f"seed {seed}: {fault}" for fault in order_faults(check.every_fault(text, refused.refusal, asked)))
 
 
 def table_faults():
@@ -244,8 +303,8 @@ def no_process_faults(folder):
 def main():
     counts = {"refused": 0, "accepted": 0}
     with tempfile.TemporaryDirectory() as folder:
-        faults = [*message_faults(folder), *slip_faults(folder), *mistake_faults(folder), *table_faults(), *name_faults(),
-                  *no_process_faults(folder)]
+        faults = [*message_faults(folder), *slip_faults(folder), *all_faults(folder), *mistake_faults(folder), *table_faults(),
+                  *name_faults(), *no_process_faults(folder)]
     faults += broken_faults(counts)
     if counts["refused"] < BROKEN:
         faults.append(f"only {counts['refused']} texts were refused")
