@@ -50,16 +50,33 @@ def named(listed: str) -> FrozenSet[str]:
     return frozenset(CAPABILITIES) if not listed or "all" in names else frozenset(names) & frozenset(CAPABILITIES)
 
 
+def act(held: Dict[str, FrozenSet[str]], names: FrozenSet[str], operator: str, flags: str) -> None:
+    """Raises and lowers the flags of capabilities as an action says."""
+    for flag in FLAGS if operator == "=" else flags:
+        held[flag] = held[flag] | names if operator != "-" and flag in flags else held[flag] - names
+
+
 def read_sets(text: str) -> Sets:
     """The sets of a capability text that `labsys` accepts."""
     held: Dict[str, FrozenSet[str]] = {flag: frozenset() for flag in FLAGS}
     for _, clause in clauses_of(text):
         listed = re.match(r"[^=+-]*", clause)[0]
-        names = named(listed)
         for operator, flags in ACTION.findall(clause[len(listed):]):
-            for flag in FLAGS if operator == "=" else flags:
-                held[flag] = held[flag] | names if operator != "-" and flag in flags else held[flag] - names
+            act(held, named(listed), operator, flags)
     return Sets(*(held[flag] for flag in FLAGS))
+
+
+def idle_lowerings(text: str) -> Iterator[TextFault]:
+    """The actions of a capability text that `labsys` accepts which lower what no action before them has raised."""
+    held: Dict[str, FrozenSet[str]] = {flag: frozenset() for flag in FLAGS}
+    for column, clause in clauses_of(text):
+        listed = re.match(r"[^=+-]*", clause)[0]
+        names = named(listed)
+        for action in ACTION.finditer(clause, len(listed)):
+            if action[1] == "-" and not any(held[flag] & names for flag in action[2]):
+                message = f"{action[0]} lowers what no action before it has raised; to raise it, write {listed}={action[2]}"
+                yield TextFault(column + action.start(), len(action[0]), False, message)
+            act(held, names, action[1], action[2])
 
 
 def name_faults(listed: str, column: int) -> Iterator[TextFault]:
@@ -90,6 +107,14 @@ def action_faults(actions: str, column: int, listed: bool) -> Iterator[TextFault
         at = action.end()
 
 
+def hyphen_faults(clause: str, column: int) -> Iterator[TextFault]:
+    """The names of a clause that have hyphens in place of underscores."""
+    for found in re.finditer(r"\bcap(?:[-_][a-z]+)+", clause, re.I):
+        name = found[0].replace("-", "_").lower()
+        if "-" in found[0] and name in CAPABILITIES:
+            yield TextFault(column + found.start(), len(found[0]), True, f"unknown capability {found[0]}; the name is {name}")
+
+
 def text_faults(text: str) -> Iterator[TextFault]:
     """What is wrong with a capability text, in the order of its clauses; nothing where it is one."""
     clauses = list(clauses_of(text))
@@ -97,5 +122,6 @@ def text_faults(text: str) -> Iterator[TextFault]:
         yield TextFault(0, max(1, len(text)), False, "a capability text is not empty; that of empty sets is =")
     for column, clause in clauses:
         listed = re.match(r"[^=+-]*", clause)[0]
+        yield from hyphen_faults(clause, column)
         yield from name_faults(listed, column)
         yield from action_faults(clause[len(listed):], column + len(listed), bool(listed))

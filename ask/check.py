@@ -3,7 +3,7 @@ import argparse
 from dataclasses import dataclass
 from typing import Dict, Iterator, List, Optional, Sequence, Set, Tuple
 
-from advice import advice_on
+from advice import advice_on, notes_on
 from answers import write_json
 from explaining import explain_line
 from playing import Played, Player, Refusal, Refused, Reply
@@ -93,9 +93,13 @@ def refusal_as_json(text: bytes, refusal: Optional[Refusal], player: Player) -> 
 
 def fault_as_json(refusal: Refusal, found: Explanation) -> Dict[str, object]:
     """An explained refusal; columns count from 1."""
-    return {"line": refusal.line, "part": refusal.part, "word": refusal.word, "message": found.message,
-            "text": found.text.decode("latin-1"), "column": found.column + 1, "length": found.length,
+    return {"line": refusal.line, "part": refusal.part, "word": refusal.word, **place_as_json(found),
             "write": [line.decode("ascii") for line in found.instead]}
+
+
+def place_as_json(found: Explanation) -> Dict[str, object]:
+    """The message about a line, the line, and the columns of the mark, which count from 1."""
+    return {"message": found.message, "text": found.text.decode("latin-1"), "column": found.column + 1, "length": found.length}
 
 
 @dataclass
@@ -235,14 +239,18 @@ def answer(arguments: argparse.Namespace, player: Player) -> int:
         say_refused(arguments, text, refused.refusal, player)
         return REFUSED
     played = player.play_accepted(text) if calls else None
+    notes = [Explanation(line.number, note.message, line.text, note.column, note.length) for line, note in notes_on(text)]
     missing = list(without_process(read_world(text), played, player)) if played and b" ESRCH\n" in played.out else []
     if arguments.json:
         write_json({"accepted": True, "objects": objects, "processes": processes, "calls": calls,
                     "no_process": [{"line": each.line, "call": each.reply.number, "process": each.missing, "living": each.living}
-                                   for each in missing]})
+                                   for each in missing],
+                    "notes": [{"line": note.line, **place_as_json(note)} for note in notes]})
         return ACCEPTED
     numbers = [counted(objects, "object"), counted(processes, "process", "es"), counted(calls, "call")]
     print(f"{arguments.file}: labsys accepts it, with {numbers[0]}, {numbers[1]} and {numbers[2]}")
     for each in missing:
         print(each.text(arguments.file))
+    for note in notes:
+        print("\n".join(note.lines(arguments.file)))
     return ACCEPTED

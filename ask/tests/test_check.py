@@ -83,6 +83,8 @@ SLIPS = [
     ("script", f"{TAG} open /a O_WRONLY|O_CREAT 0600", "flags are letters here: wc", "O_WRONLY|O_CREAT",
      [f"{TAG} open /a wc 0600"]),
     ("script", f'{TAG} open("/a", r);', "without parentheses and commas", 'open("/a", r);', [f'{TAG} open "/a" r']),
+    ("script", f"{TAG} cap_set_proc cap-kill=p", "unknown capability cap-kill; the name is cap_kill", "cap-kill", []),
+    ("world", 'proc public 0 0 - "cap_dac-read-search=p"', "the name is cap_dac_read_search", "cap_dac-read-search", []),
     ("script", f"{TAG} OPEN /a r", "letter case counts; the call is open", "OPEN", [f"{TAG} open /a r"]),
 ]
 # names elsewhere with arguments, a part of the message, and the calls to write
@@ -114,6 +116,21 @@ SLIPS += [("script", f"{TAG} {call}", message, call.split()[0], [f"{TAG} {line}"
           for call, message, lines in ELSEWHERE]
 
 
+LOWERS = "lowers what no action before it has raised; to raise it, write cap_chown=ep"
+AS_PATH = "setfcap takes it for a path; a capability text of more than one clause is one word, "
+# lines that are accepted, with what is noted of each and what is marked
+NOTES = [
+    ("world", 'proc public 0 0 - "cap_chown-ep"', [(f'CAPS "cap_chown-ep": -ep {LOWERS}', "-ep")]),
+    ("world", "file /a 0644 0 0 public a-e cap_chown-ep", [(LOWERS, "-ep")]),
+    ("world", "file /a 0644 0 0 public a-e all=p", []),
+    ("world", 'proc public 0 0 - "all=ep cap_chown-ep"', []),
+    ("world", 'proc public 0 0 - "cap_chown=eip-i"', []),
+    ("script", f"{TAG} cap_set_proc cap_chown-ep", [(LOWERS, "-ep")]),
+    ("script", f"{TAG} setfcap cap_chown=p cap_kill=p /a", [(f'"cap_kill=p": {AS_PATH}"cap_chown=p cap_kill=p"', "cap_kill=p")]),
+    ("script", f"{TAG} setfcap cap_chown-ep /a", [(LOWERS, "-ep")]),
+    ("script", f'{TAG} setfcap "cap_chown=p cap_kill=p" /a', []),
+    ("script", f"{TAG} setfcap cap_chown=p /a-e b=p", []),
+]
 # worlds with faults in several lines: the numbers of these, and what the last line before the refusal says
 FAULTY = """\
 world 2
@@ -191,6 +208,18 @@ def name_faults():
     """Names elsewhere that are calls here, and calls that are to be written and are none."""
     yield from (f"{name} is a call here" for name in sorted(elsewhere.NAMES & {*CALLS, *UTILITIES}))
     yield from (f"{call} is no call here" for call in sorted(set(elsewhere.RENAMED.values()) - {*CALLS, *UTILITIES}))
+
+
+def note_faults(folder):
+    """Whether what an accepted line seems not to mean is noted, and nothing else."""
+    world = mistakes.world_of((TOP / "docs" / "FORMATS.md").read_text())
+    for part, line, due in NOTES:
+        before, behind = (world, "") if part == "script" else (world[:-len("script\n")], "script\n")
+        status, lines = answer_about(f"{before}{line}\n{behind}".encode(), folder)
+        shown = [(lines[at].partition(": ")[2], marked(lines[at:])) for at in range(1, len(lines), 3)]
+        if status != 0 or len(shown) != len(due) or any(text not in note[0] or below != note[1]
+                                                         for note, (text, below) in zip(shown, due)):
+            yield f"{line!r}: {lines}"
 
 
 def all_faults(folder):
@@ -303,8 +332,8 @@ def no_process_faults(folder):
 def main():
     counts = {"refused": 0, "accepted": 0}
     with tempfile.TemporaryDirectory() as folder:
-        faults = [*message_faults(folder), *slip_faults(folder), *all_faults(folder), *mistake_faults(folder), *table_faults(),
-                  *name_faults(), *no_process_faults(folder)]
+        faults = [*message_faults(folder), *slip_faults(folder), *all_faults(folder), *note_faults(folder), *mistake_faults(folder),
+                  *table_faults(), *name_faults(), *no_process_faults(folder)]
     faults += broken_faults(counts)
     if counts["refused"] < BROKEN:
         faults.append(f"only {counts['refused']} texts were refused")
