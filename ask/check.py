@@ -1,7 +1,7 @@
 """The question `check`: whether `labsys` accepts a file, and what is wrong with a line that it has refused."""
 import argparse
 from dataclasses import dataclass
-from typing import Dict, Iterator, List, Optional, Sequence, Set, Tuple
+from typing import Callable, Dict, Iterator, List, Optional, Sequence, Set, Tuple
 
 from advice import advice_on, notes_on
 from answers import write_json
@@ -44,12 +44,16 @@ def add_arguments(parser: argparse.ArgumentParser) -> None:
     """Adds the arguments of the question."""
     parser.add_argument("file", metavar="FILE", help="the world, with or without a script; - is standard input")
     parser.add_argument("--all", action="store_true", help="explain every line that is refused, and not the first alone")
+    parser.add_argument("--least", action="store_true", help="ask whether labsys least accepts the file, which refuses more lines")
 
 
 def first_lines(text: bytes, count: int) -> bytes:
     """The first so many lines of a text."""
     pieces = text.split(b"\n", count)
     return text if len(pieces) <= count else text[:len(text) - len(pieces[count])]
+
+
+Judge = Callable[[bytes], object]
 
 
 def accepts(player: Player, text: bytes, number: int, lines: Sequence[bytes]) -> bool:
@@ -67,7 +71,8 @@ def explanation(text: bytes, refusal: Refusal, player: Player) -> Explanation:
     """What is wrong with the line of a refusal: a usual slip, or else the fault that the refusal names."""
     world = read_world(first_lines(text, refusal.line))
     line = world.lines[refusal.line - 1] if refusal.line <= len(world.lines) else None
-    for advice in advice_on(world, line, refusal.part) if line and refusal.part in ("world", "script") else ():
+    explained = line and refusal.part in ("world", "script") and refusal.word != "caps_asked"
+    for advice in advice_on(world, line, refusal.part) if explained else ():
         instead = advice.instead if advice.instead and accepts(player, text, refusal.line, advice.instead) else ()
         if instead or not advice.doubtful:
             return Explanation(refusal.line, advice.message, line.text, advice.column, advice.length, instead)
@@ -122,10 +127,10 @@ class Faults:
         return [*shown, f"labsys: {self.found[0][0]}"]
 
 
-def refusal_of(text: bytes, player: Player) -> Optional[Refusal]:
+def refusal_of(text: bytes, judge: Judge) -> Optional[Refusal]:
     """The refusal of a text, or None where it is accepted; raises `Refused` where it is too long."""
     try:
-        player.check(text)
+        judge(text)
     except Refused as refused:
         if refused.refusal is None:
             raise
@@ -133,7 +138,7 @@ def refusal_of(text: bytes, player: Player) -> Optional[Refusal]:
     return None
 
 
-def go_on(text: bytes, refusal: Refusal, instead: Sequence[bytes], player: Player) -> Optional[Tuple[bytes, Optional[Refusal]]]:
+def go_on(text: bytes, refusal: Refusal, instead: Sequence[bytes], judge: Judge) -> Optional[Tuple[bytes, Optional[Refusal]]]:
     """A text with a line in place of the refused one, and its refusal, which is of a later line; None where no line will do."""
     before, through = first_lines(text, refusal.line - 1), first_lines(text, refusal.line)
     world = read_world(through)
@@ -141,19 +146,19 @@ def go_on(text: bytes, refusal: Refusal, instead: Sequence[bytes], player: Playe
         return text, None
     for line in stand_ins(world, world.lines[refusal.line - 1], refusal.part, instead):
         changed = before + line + b"\n" + text[len(through):]
-        following = refusal_of(changed, player)
+        following = refusal_of(changed, judge)
         if following is None or following.line > refusal.line:
             return changed, following
     return None
 
 
-def every_fault(text: bytes, first: Refusal, player: Player) -> Faults:
-    """The refused lines of a text, from the first on."""
+def every_fault(text: bytes, first: Refusal, player: Player, judge: Judge) -> Faults:
+    """The lines of a text that `judge` refuses, from the first on."""
     faults, refusal = Faults([]), first
     while len(faults.found) < MOST_FAULTS:
         found = explanation(text, refusal, player)
         faults.found.append((refusal, found))
-        following = go_on(text, refusal, found.instead, player)
+        following = go_on(text, refusal, found.instead, judge)
         if following is None:
             return faults
         text, refusal = following
@@ -222,7 +227,8 @@ def counted(count: int, word: str, ending: str = "s") -> str:
 
 def say_refused(arguments: argparse.Namespace, text: bytes, refusal: Optional[Refusal], player: Player) -> None:
     """Writes the answer about a refused text."""
-    faults = every_fault(text, refusal, player) if arguments.all and refusal else None
+    judge = player.least if arguments.least else player.check
+    faults = every_fault(text, refusal, player, judge) if arguments.all and refusal else None
     if arguments.json:
         whole = {"faults": [fault_as_json(*fault) for fault in faults.found], "whole": faults.whole} if faults else {}
         write_json({**refusal_as_json(text, refusal, player), **whole})
@@ -234,6 +240,8 @@ def answer(arguments: argparse.Namespace, player: Player) -> int:
     """Answers the question."""
     text = read_file(arguments.file)
     try:
+        if arguments.least:
+            player.least(text)
         objects, processes, calls = player.check(text)
     except Refused as refused:
         say_refused(arguments, text, refused.refusal, player)
@@ -248,7 +256,8 @@ def answer(arguments: argparse.Namespace, player: Player) -> int:
                     "notes": [{"line": note.line, **place_as_json(note)} for note in notes]})
         return ACCEPTED
     numbers = [counted(objects, "object"), counted(processes, "process", "es"), counted(calls, "call")]
-    print(f"{arguments.file}: labsys accepts it, with {numbers[0]}, {numbers[1]} and {numbers[2]}")
+    program = "labsys least" if arguments.least else "labsys"
+    print(f"{arguments.file}: {program} accepts it, with {numbers[0]}, {numbers[1]} and {numbers[2]}")
     for each in missing:
         print(each.text(arguments.file))
     for note in notes:

@@ -19,6 +19,7 @@ MAX_PROCESS_NUMBER = 4_095
 LISTS = {"levels": (1, 16), "categories": (0, 64), "grades": (1, 16)}
 OPEN_FLAGS = "rwcxta"
 NUMBER_LIMITS = {"read": 65_536, "exit": 255}
+ASKING = ("cap_get_file", "cap_set_file", "cap_get_fd", "cap_set_fd", "cap_get_proc", "cap_set_proc", "getfcap", "setfcap")
 
 
 @dataclass(frozen=True)
@@ -403,6 +404,9 @@ def script_findings(line: Line, policy: Policy) -> Iterator[Finding]:
         yield on_word("syntax", "word 2", call, "no call or utility" + (f"; near are {listed(near)}" if near else ""))
     else:
         yield from call_findings(line, policy)
+    if call.text in ASKING:
+        yield on_word("caps_asked", "word 2", call, "it asks for capability sets or sets them, so its reply could show which ones "
+                      f"least takes away; least refuses {', '.join(ASKING[:-1])} and {ASKING[-1]}")
 
 
 def explain_line(world: World, number: int, part: str, word: str) -> Finding:

@@ -189,6 +189,12 @@ class Player:
         objects, processes, calls = map(int, counts.groups())
         return objects, processes, calls
 
+    def least(self, text: bytes) -> None:
+        """Whether `labsys least` accepts a text; raises `Refused` where it does not."""
+        status, out, messages = self.run(["least"], text)
+        if status != STATUS_ACCEPTED:
+            raise Refused(text, Played(status, out, b"", messages).refusal)
+
     def view(self, label: str, text: bytes) -> Played:
         """Plays a world with its script as a label sees it; there is no trail."""
         status, out, messages = self.run(["view", label], text)

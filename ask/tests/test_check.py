@@ -222,6 +222,31 @@ def note_faults(folder):
             yield f"{line!r}: {lines}"
 
 
+def least_faults(folder):
+    """Whether it is explained what `least` alone refuses: every call that asks for capability sets, and no other."""
+    world = mistakes.world_of((TOP / "docs" / "FORMATS.md").read_text())
+    calls = ["cap_get_file /eng", 'cap_set_file /eng "="', "cap_get_fd 0", 'cap_set_fd 0 "="', "cap_get_proc", 'cap_set_proc "="',
+             "getfcap /eng", 'setfcap "=" /eng']
+    path = f"{folder}/world.txt"
+    with open(path, "w", encoding="ascii") as file:
+        file.write("".join([world, *(f"{TAG} getpid\n{TAG} {call}\n" for call in calls), "getpid\n"]))
+    status, out, _ = labask("check", "--least", "--all", path)
+    lines = out.splitlines()
+    due = [f'{path}:{11 + 2 * at}: word 2 "{call.split()[0]}": it asks for capability sets' for at, call in enumerate(calls)]
+    due.append(f"{path}:26: ")
+    shown = [lines[3 * at] for at in range(len(due))]
+    if status != 2 or lines[-1] != "labsys: refused 11 script caps_asked" or not all(map(str.startswith, shown, due)):
+        yield f"--least --all: {lines}"
+    status, out, _ = labask("check", path)
+    if status != 2 or not out.startswith(due[-1]):
+        yield f"without --least: {out}"
+    with open(path, "w", encoding="ascii") as file:
+        file.write(f"{world}{TAG} getpid\n")
+    status, out, _ = labask("check", "--least", path)
+    if status != 0 or ": labsys least accepts it, with " not in out:
+        yield f"--least: {out}"
+
+
 def all_faults(folder):
     """Whether `check --all` shows each faulty line, and says where it went no further."""
     for text, numbers, last in ALL:
@@ -295,7 +320,8 @@ def broken_faults(counts):
             if not found[0].startswith(f"world.txt:{refused.refusal.line}: ") or NOTHING in found[0]:
                 yield f"seed {seed}: {refused}: {found}"
             if counts["refused"] % 20 == 0:
-                yield from (f"seed {seed}: {fault}" for fault in order_faults(check.every_fault(text, refused.refusal, asked)))
+                faults = check.every_fault(text, refused.refusal, asked, asked.check)
+                yield from (f"seed {seed}: {fault}" for fault in order_faults(faults))
 
 
 def table_faults():
@@ -333,7 +359,7 @@ def main():
     counts = {"refused": 0, "accepted": 0}
     with tempfile.TemporaryDirectory() as folder:
         faults = [*message_faults(folder), *slip_faults(folder), *all_faults(folder), *note_faults(folder), *mistake_faults(folder),
-                  *table_faults(), *name_faults(), *no_process_faults(folder)]
+                  *least_faults(folder), *table_faults(), *name_faults(), *no_process_faults(folder)]
     faults += broken_faults(counts)
     if counts["refused"] < BROKEN:
         faults.append(f"only {counts['refused']} texts were refused")
