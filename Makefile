@@ -37,6 +37,8 @@ install: all
 	install -m 644 docs/labsys.1 docs/labask.1 '$(DESTDIR)$(mandir)/man1'
 	install -m 644 completion/labsys.bash '$(DESTDIR)$(bashdir)/labsys'
 	install -m 644 completion/_labsys '$(DESTDIR)$(zshdir)/_labsys'
+	install -m 644 completion/labask.bash '$(DESTDIR)$(bashdir)/labask'
+	install -m 644 completion/_labask '$(DESTDIR)$(zshdir)/_labask'
 	install -m 644 editor/labsys.vim '$(DESTDIR)$(vimdir)/labsys.vim'
 
 check:
@@ -53,6 +55,6 @@ uninstall:
 	rm -f '$(DESTDIR)$(bindir)/labsys' '$(DESTDIR)$(libexecdir)/labsys' '$(DESTDIR)$(mandir)/man1/labsys.1'
 	rm -f '$(DESTDIR)$(bindir)/labask' '$(DESTDIR)$(mandir)/man1/labask.1'
 	rm -rf '$(DESTDIR)$(askdir)'
-	rm -f '$(DESTDIR)$(bashdir)/labsys' '$(DESTDIR)$(zshdir)/_labsys' '$(DESTDIR)$(vimdir)/labsys.vim'
+	rm -f '$(DESTDIR)$(bashdir)/labsys' '$(DESTDIR)$(zshdir)/_labsys' '$(DESTDIR)$(bashdir)/labask' '$(DESTDIR)$(zshdir)/_labask' '$(DESTDIR)$(vimdir)/labsys.vim'
 
 .PHONY: all install check docs-check test uninstall

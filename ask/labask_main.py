@@ -97,11 +97,10 @@ def make_parser() -> QuestionParser:
     return parser
 
 
-def say_refusal(arguments: argparse.Namespace, refused: Refused) -> None:
+def say_refusal(arguments: argparse.Namespace, refused: Refused, player: Player) -> None:
     """Writes to standard error which line was refused, and what is wrong with it."""
     import check
 
-    player = Player([find_program(arguments.labsys)])
     for line in check.explain(refused.text, refused.refusal, getattr(arguments, "file", "input"), player):
         print(line, file=sys.stderr)
 
@@ -125,7 +124,12 @@ def answered(words: Optional[Sequence[str]]) -> int:
     """Answers the question of a command line, and gives the exit status. Also the answer to `--help` is written at once."""
     try:
         arguments = make_parser().parse_args(words)
-        return arguments.answer(arguments, Player([find_program(arguments.labsys)]))
+        player = Player([find_program(arguments.labsys)])
+        try:
+            return arguments.answer(arguments, player)
+        except Refused as refused:
+            say_refusal(arguments, refused, player)
+            return REFUSED
     finally:
         sys.stdout.flush()
 
@@ -135,9 +139,6 @@ def main(words: Optional[Sequence[str]] = None) -> int:
     fill_descriptors()
     try:
         return answered(words)
-    except Refused as refused:
-        say_refusal(arguments, refused)
-        return REFUSED
     except PlayingFault as fault:
         print(f"labask: {fault}", file=sys.stderr)
         return NO_PROGRAM

@@ -342,7 +342,7 @@ def first_line(descriptor: int) -> Tuple[bytes, bool]:
     while b"\n" not in line and len(line) < FIRST_BYTES:
         if not select.select([descriptor], [], [], max(0.0, end - time.monotonic()))[0]:
             return line, True
-        piece = os.read(descriptor, FIRST_BYTES)
+        piece = os.read(descriptor, FIRST_BYTES - len(line))
         if not piece:
             break
         line += piece

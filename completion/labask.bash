@@ -14,6 +14,7 @@ _labask() {
     done
     case $question in
     '') options="--labsys --help --version" ;;
+    check) options="--all --least" ;;
     who) options="--process" ;;
     why) options="--against" ;;
     flow) options="--depth --without" ;;
@@ -23,7 +24,7 @@ _labask() {
     trace) options="--directory --as --start --umask" ;;
     esac
     case $before in
-    --json | --help | --version) ;;
+    --json | --help | --version | --all | --least) ;;
     --*) return ;; # its value, which may be the name of a file
     esac
     if [ -z "$question" ]; then
