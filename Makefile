@@ -28,12 +28,12 @@ install: all
 	install -d '$(DESTDIR)$(bindir)' '$(DESTDIR)$(libexecdir)' '$(DESTDIR)$(mandir)/man1' '$(DESTDIR)$(bashdir)' '$(DESTDIR)$(zshdir)' '$(DESTDIR)$(vimdir)'
 	install -m 755 labsys '$(DESTDIR)$(bindir)/labsys'
 	install -m 755 crates/labsys/out/labsys '$(DESTDIR)$(libexecdir)/labsys'
-	install -d '$(DESTDIR)$(askdir)/page_parts' '$(DESTDIR)$(askdir)/strace'
+	install -d '$(DESTDIR)$(askdir)'
 	install -m 755 ask/labask '$(DESTDIR)$(askdir)/labask'
-	install -m 644 ask/*.py ask/*.css ask/*.js '$(DESTDIR)$(askdir)'
-	install -m 644 ask/page_parts/*.py '$(DESTDIR)$(askdir)/page_parts'
-	install -m 644 ask/strace/*.py '$(DESTDIR)$(askdir)/strace'
-	ln -sf '$(askdir)/labask' '$(DESTDIR)$(bindir)/labask'
+	cd ask/src && find labask -name '*.py' -o -name '*.css' -o -name '*.js' | while read -r file; do \
+	    install -D -m 644 "$$file" '$(DESTDIR)$(askdir)/src/'"$$file" || exit; \
+	done
+	ln -srf '$(DESTDIR)$(askdir)/labask' '$(DESTDIR)$(bindir)/labask'
 	install -m 644 docs/labsys.1 docs/labask.1 '$(DESTDIR)$(mandir)/man1'
 	install -m 644 completion/labsys.bash '$(DESTDIR)$(bashdir)/labsys'
 	install -m 644 completion/_labsys '$(DESTDIR)$(zshdir)/_labsys'

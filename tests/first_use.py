@@ -389,8 +389,8 @@ class FirstUse(unittest.TestCase):
         self.plays(script=root / "usr/bin/labsys")
         for name in ("labsys", "labask"):
             self.assertTrue((root / f"usr/share/man/man1/{name}.1").exists())
-        self.assertEqual(os.readlink(root / "usr/bin/labask"), "/usr/libexec/ask/labask")
-        subprocess.run([root / "usr/libexec/ask/labask", "flow", "--help"], check=True, stdout=subprocess.DEVNULL)
+        self.assertEqual(os.readlink(root / "usr/bin/labask"), "../libexec/ask/labask")
+        subprocess.run([root / "usr/bin/labask", "flow", "--help"], check=True, stdout=subprocess.DEVNULL)
         done = self.room.in_shell("root/usr/bin/labsys play trail <world.txt >&-")
         self.assertEqual(done.returncode, 4)
 

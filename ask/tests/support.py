@@ -9,11 +9,11 @@ import sys
 HERE = pathlib.Path(__file__).resolve().parent
 TOP = HERE.parent.parent
 EXAMPLES = sorted((TOP / "examples").glob("*.txt"))
-sys.path[:0] = [str(HERE.parent), str(TOP / "tests")]
+sys.path[:0] = [str(HERE.parent / "src"), str(TOP / "tests")]
 sys.dont_write_bytecode = True
 
-import labask_main  # noqa: E402
-from playing import Player, find_program  # noqa: E402
+from labask import main as labask_main  # noqa: E402
+from labask.playing import Player, find_program  # noqa: E402
 from run_cases import BadCase, find, read_case  # noqa: E402
 
 

@@ -7,7 +7,7 @@ import tempfile
 
 from system import labask
 
-from strace.comparing import KNOWN, Verdict, known_texts
+from labask.strace.comparing import KNOWN, Verdict, known_texts
 
 WORLD = b"""\
 # root "/srv/site"

@@ -9,11 +9,11 @@ import tempfile
 
 from support import EXAMPLES, TOP, labask, player, report, seeds
 
-import check
-import elsewhere
+from labask import check
+from labask import elsewhere
 import mistakes
-from playing import Refused
-from signatures import CALLS, CAPABILITIES, LINES, UTILITIES
+from labask.playing import Refused
+from labask.signatures import CALLS, CAPABILITIES, LINES, UTILITIES
 
 BROKEN = 1000
 NOTHING = "no fault was found that this word names"

@@ -10,8 +10,8 @@ import time
 
 from support import HERE, TOP, labask, report
 
-import playing
-from playing import find_program
+from labask import playing
+from labask.playing import find_program
 
 LABASK = HERE.parent / "labask"
 WORLD = TOP / "examples" / "lesson.txt"

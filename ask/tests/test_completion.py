@@ -6,7 +6,7 @@ import subprocess
 
 from support import TOP, report
 
-import labask_main
+from labask import main as labask_main
 
 BASH, ZSH = TOP / "completion" / "labask.bash", TOP / "completion" / "_labask"
 

@@ -10,7 +10,7 @@ import tempfile
 
 from support import TOP, labask, player, report
 
-from playing import Outcome
+from labask.playing import Outcome
 
 ASKED = [("backup_for_all", 6), ("lesson", 3), ("login", 3), ("owners_and_modes", 2), ("relabelling", 2), ("read_by_capability", 1)]
 NUMBER = re.compile(r"\d+@\S+")

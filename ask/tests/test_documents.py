@@ -13,8 +13,8 @@ import tempfile
 from support import TOP, report
 
 import examples
-import labask_main
-from playing import find_program
+from labask import main as labask_main
+from labask.playing import find_program
 
 PAGE = TOP / "docs" / "ASK.md"
 MANUAL = TOP / "docs" / "labask.1"

@@ -8,8 +8,8 @@ import tempfile
 
 from support import EXAMPLES, case_inputs, labask, player, report
 
-from playing import Refused
-from worlds import read_world
+from labask.playing import Refused
+from labask.worlds import read_world
 
 MOST_CELLS = 3000  # of a table; about the objects of larger worlds, the first ones are asked
 MOST_BYTES = 1_000_000  # of a refused input about which `who` is asked too, which says the same as `check`

@@ -16,7 +16,7 @@ import tempfile
 
 from support import EXAMPLES, HERE, TOP, labask, report
 
-import labask_main
+from labask import main as labask_main
 
 EXPECTED = HERE / "expected"
 FLOWS = {

@@ -11,9 +11,9 @@ import tempfile
 
 from support import TOP, dominates, labask, player, random_world, report, seeds
 
-import flow
-from spreading import Place
-from worlds import Kind, read_world
+from labask import flow
+from labask.spreading import Place
+from labask.worlds import Kind, read_world
 
 WORLDS = 1000
 LIST = "/pay/list of may"

@@ -21,7 +21,7 @@ import tempfile
 
 from system import HERE, PLAIN, USER, as_user, program, root, strace
 
-from strace.comparing import KNOWN, known_texts
+from labask.strace.comparing import KNOWN, known_texts
 
 TOP = HERE.parent.parent
 PAGE = TOP / "docs" / "FROM_A_SYSTEM.md"

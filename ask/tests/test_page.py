@@ -19,11 +19,11 @@ import tempfile
 
 from page_inputs import ASK, EXAMPLES, LABSYS, Failure, examples, inputs, labask, labsys, make_page, reply_lines, require, trail_of
 
-import labask_main
-from page_parts.lanes import LaneKind, Lanes, make_patterns, stretches
-from page_parts.markup import embedded
-from page_parts.words import caps_of
-from worlds import UTILITIES, quoted, read_world, split_words
+from labask import main as labask_main
+from labask.page_parts.lanes import LaneKind, Lanes, make_patterns, stretches
+from labask.page_parts.markup import embedded
+from labask.page_parts.words import caps_of
+from labask.worlds import UTILITIES, quoted, read_world, split_words
 
 LARGEST = 10 * 1024 * 1024
 COMPARED = 1_000_000  # bytes of an input whose rows are compared

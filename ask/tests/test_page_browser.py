@@ -15,8 +15,8 @@ from browser import Browser, BrowserFault, Unavailable
 from page_inputs import EXAMPLES, Failure, labsys, make_page, reply_lines, require, trail_of
 from test_page import HOSTILE, world_of_many
 
-from page_parts.words import caps_of
-from worlds import UTILITIES, quoted, read_world, split_words
+from labask.page_parts.words import caps_of
+from labask.worlds import UTILITIES, quoted, read_world, split_words
 
 # worlds whose labels are all chosen, and whose calls are all picked
 CHOSEN = ("backup_for_all", "lesson", "login", "relabelling", "utilities", "fetched_program", "names_of_a_vault", "drops_capability")

@@ -18,8 +18,8 @@ import tempfile
 
 from system import HERE, PLAIN, USER, as_user, give, labask, own_ids, play, strace
 
-from strace.comparing import Verdict, known_texts
-from worlds import path_word, read_world, split_words
+from labask.strace.comparing import Verdict, known_texts
+from labask.worlds import path_word, read_world, split_words
 
 LOGS = HERE / "logs"
 KEPT = pathlib.Path("/srv/site")

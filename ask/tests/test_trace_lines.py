@@ -8,12 +8,12 @@ import tempfile
 
 from system import labask
 
-import against
-import trace
-from playing import Player, find_program
-from strace.log import Call, read_log
-from strace.values import Argument, split_arguments
-from worlds import read_world
+from labask import against
+from labask import tracing as trace
+from labask.playing import Player, find_program
+from labask.strace.log import Call, read_log
+from labask.strace.values import Argument, split_arguments
+from labask.worlds import read_world
 
 WORLD = b"""\
 # root "/srv/site"

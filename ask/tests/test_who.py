@@ -6,10 +6,10 @@ the test are others than those of the question: `chdir` by a child, and `exec` b
 """
 from support import EXAMPLES, player, random_world, report, seeds
 
-import who
-from playing import Outcome
-from signatures import CAPABILITIES
-from worlds import Kind, path_word, read_world
+from labask import who
+from labask.playing import Outcome
+from labask.signatures import CAPABILITIES
+from labask.worlds import Kind, path_word, read_world
 
 RANDOM = 16
 CAPS = [name for name in CAPABILITIES if name.startswith(("cap_dac", "cap_mac"))]

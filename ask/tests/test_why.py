@@ -8,10 +8,10 @@ import re
 
 from support import EXAMPLES, TOP, case_inputs, player, report
 
-import why
-from playing import Outcome, Refused
-from reasons import CHECKS, ERRORS
-from worlds import read_world
+from labask import why
+from labask.playing import Outcome, Refused
+from labask.reasons import CHECKS, ERRORS
+from labask.worlds import read_world
 
 MOST_CALLS = 60  # of a case; those with more are the largest inputs
 

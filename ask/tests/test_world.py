@@ -12,8 +12,8 @@ import tempfile
 
 from system import labask, play, root
 
-from file_caps import read_attribute
-from worlds import path_word, read_world, split_words
+from labask.file_caps import read_attribute
+from labask.worlds import path_word, read_world, split_words
 
 ASKER = "7:7:-:cap_dac_read_search=ep"
 KINDS = {stat.S_IFDIR: "dir", stat.S_IFREG: "file", stat.S_IFIFO: "fifo"}

@@ -1,0 +1,1 @@
+"""Questions about a world of `labsys`, answered by playing calls."""

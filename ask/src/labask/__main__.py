@@ -1,0 +1,6 @@
+"""Runs the command line, as `python3 -m labask`."""
+import sys
+
+from labask.main import main
+
+sys.exit(main())

@@ -1,0 +1,159 @@
+"""The command line of `labask`: a subcommand for each question, each in a module of its own.
+
+The module of a question has `add_arguments(parser)` and `answer(arguments, player)`, which gives the exit status. It is imported
+when its question is asked.
+"""
+import argparse
+import importlib
+import os
+import sys
+from dataclasses import dataclass
+from typing import NoReturn, Optional, Sequence
+
+from labask.answers import WrongWords
+from labask.command_words import named
+from labask.playing import Player, PlayingFault, Refused, find_program
+
+VERSION = "1.0.0"  # that of docs/version.txt, which is not installed
+DONE = 0
+USAGE = 1
+REFUSED = 2
+NO_PROGRAM = 70
+
+
+@dataclass(frozen=True)
+class Question:
+    """A question: the name of its module, and one line of help."""
+    module: str
+    help: str
+
+
+QUESTIONS = {
+    "check": Question("check", "does labsys accept FILE, and else what is wrong with the line that it refuses"),
+    "who": Question("who", "which process may read, write, execute, list or search which object, and by which right"),
+    "why": Question("why", "why was a call of the script denied or refused, and which capability would have let it pass"),
+    "flow": Question("flow", "can bytes of one object get to a process or another object, and by which calls"),
+    "cuts": Question("cuts", "which single changes of the world have a call denied"),
+    "page": Question("page", "one page of HTML with the run of FILE"),
+    "world": Question("world", "a world made from a directory"),
+    "trace": Question("tracing", "script lines made from a log of strace"),
+}
+ENDING = """\
+Exit status: 0 where the question was answered, 1 for a wrong command line, a file that can't be read or an answer that can't be
+written, 2 where labsys refuses the input, and 70 where labsys is missing, is another program, or fails."""
+
+
+class QuestionParser(argparse.ArgumentParser):
+    """The parser of `labask` or of a question. That of a question imports the question's module at its first use."""
+    question: Optional[str] = None
+
+    def error(self, message: str) -> NoReturn:
+        """Ends with the status of a wrong command line."""
+        self.print_usage(sys.stderr)
+        self.exit(USAGE, f"{self.prog}: {message}\n")
+
+    def _print_message(self, message, file=None):
+        """As that of the base class, which passes over faults of writing; help that can't be written is none."""
+        if file is sys.stdout:
+            file.write(message)
+        else:
+            super()._print_message(message, file)
+
+    def parse_known_args(self, args=None, namespace=None):
+        """As that of the base class, with the arguments of the question, between whose words options may stand."""
+        if self.question is not None:
+            self.add_question(QUESTIONS[self.question].module)
+            self.question = None
+            if "--" not in args:
+                return self.parse_known_intermixed_args(args, namespace)
+        return super().parse_known_args(args, namespace)
+
+    def add_question(self, name: str) -> None:
+        """Adds the arguments of the question of a module."""
+        module = importlib.import_module(f"labask.{name}")
+        module.add_arguments(self)
+        self.add_argument("--json", action="store_true", help="write the answer as JSON")
+        add_program(self, argparse.SUPPRESS)
+        self.set_defaults(answer=module.answer)
+
+
+def add_program(parser: argparse.ArgumentParser, default: Optional[str]) -> None:
+    """Adds the option that names the program."""
+    parser.add_argument("--labsys", metavar="PROGRAM", type=named, default=default,
+                        help="the program labsys; else that of the variable LABSYS, the one beside the folder of labask, or the "
+                        "one on PATH")
+
+
+def make_parser() -> QuestionParser:
+    """The parser of the whole command line."""
+    parser = QuestionParser(prog="labask", epilog=ENDING, formatter_class=argparse.RawDescriptionHelpFormatter,
+                            description="Answers questions about a world by playing calls with labsys.")
+    add_program(parser, None)
+    parser.add_argument("--version", action="version", version=f"labask {VERSION}", help="print the version and end")
+    questions = parser.add_subparsers(metavar="QUESTION", required=True)
+    for name, question in QUESTIONS.items():
+        made = questions.add_parser(name, help=question.help, description=question.help[0].upper() + question.help[1:] + ".")
+        made.question = name
+    return parser
+
+
+def say_refusal(arguments: argparse.Namespace, refused: Refused, player: Player) -> None:
+    """Writes to standard error which line was refused, and what is wrong with it."""
+    from labask import check
+
+    for line in check.explain(refused.text, refused.refusal, getattr(arguments, "file", "input"), player):
+        print(line, file=sys.stderr)
+
+
+def fill_descriptors() -> None:
+    """Puts a file at each standard descriptor that is closed, so that no other file takes its place.
+
+    What is read or written there fails then, as before; but messages go nowhere.
+    """
+    for name, mode, flags in (("stdin", "r", os.O_WRONLY), ("stdout", "w", os.O_RDONLY), ("stderr", "w", os.O_WRONLY)):
+        if getattr(sys, name) is None:
+            setattr(sys, name, open(os.open(os.devnull, flags), mode, encoding="utf-8"))
+
+
+def discard_output() -> None:
+    """Has what is left of the answer go nowhere, which Python would try to write once more at its end."""
+    os.dup2(os.open(os.devnull, os.O_WRONLY), sys.stdout.fileno())
+
+
+def answered(words: Optional[Sequence[str]]) -> int:
+    """Answers the question of a command line, and gives the exit status. Also the answer to `--help` is written at once."""
+    try:
+        arguments = make_parser().parse_args(words)
+        player = Player([find_program(arguments.labsys)])
+        try:
+            return arguments.answer(arguments, player)
+        except Refused as refused:
+            say_refusal(arguments, refused, player)
+            return REFUSED
+    finally:
+        sys.stdout.flush()
+
+
+def main(words: Optional[Sequence[str]] = None) -> int:
+    """Answers the question of a command line, and gives the exit status; says on standard error why there is no answer."""
+    fill_descriptors()
+    try:
+        return answered(words)
+    except PlayingFault as fault:
+        print(f"labask: {fault}", file=sys.stderr)
+        return NO_PROGRAM
+    except WrongWords as fault:
+        print(f"labask: {fault}", file=sys.stderr)
+        return USAGE
+    except BrokenPipeError:
+        discard_output()
+        return DONE
+    except OSError as fault:
+        print(f"labask: {fault.filename or 'standard output'}: {fault.strerror}", file=sys.stderr)
+        if not fault.filename:
+            discard_output()
+        return USAGE
+
+
+if __name__ == "__main__":
+    sys.exit(main())

@@ -1,0 +1,358 @@
+"""Plays worlds with `labsys`, and reads what it writes: replies, end lines, refusals, records."""
+import enum
+import functools
+import json
+import os
+import pathlib
+import re
+import select
+import shutil
+import signal
+import subprocess
+import tempfile
+import time
+from dataclasses import dataclass, replace
+from functools import cached_property
+from typing import Any, Dict, Iterator, List, Optional, Sequence, Tuple
+
+from labask.worlds import UTILITIES, Word, quoted, split_words
+
+STATUS_ACCEPTED = 0
+STATUS_REFUSED = 2
+STATUS_TOO_LONG = 7
+ANSWERED = (STATUS_ACCEPTED, STATUS_REFUSED, STATUS_TOO_LONG)
+VERSION = re.compile(rb"labsys [0-9]+\.[0-9]+\.[0-9]+[^ ]*$")
+COUNTS = re.compile(rb"ok ([0-9]+) ([0-9]+) ([0-9]+)\n")
+LAST_LINE = re.compile(rb"^done [0-9]+\n\Z", re.M)
+FIRST_SECONDS = 10.0  # within which a program says its version
+FIRST_BYTES = 64  # of its answer that are read
+
+
+class Outcome(enum.Enum):
+    """How a call was answered: it was done, a check denied it, or it was refused otherwise."""
+    DONE = "ok"
+    DENIED = "denied"
+    REFUSED = "refused"
+
+
+@dataclass(frozen=True)
+class Reply:
+    """The reply to a call. Its number counts calls from 1; `path` is that of a utility; `words` are those of the answer."""
+    number: int
+    tag: str
+    call: str
+    outcome: Outcome
+    error: Optional[str] = None
+    check: Optional[str] = None
+    place: Optional[str] = None
+    words: Tuple[Word, ...] = ()
+    path: Optional[bytes] = None
+
+    @property
+    def text(self) -> str:
+        """The reply without its tag and call, as `labsys` writes it."""
+        if self.outcome is Outcome.DONE:
+            return " ".join(["ok", *(word.written.decode("latin-1") for word in self.words)])
+        return " ".join(part for part in (self.error, self.check, self.place) if part)
+
+
+@dataclass(frozen=True)
+class End:
+    """An end line: a process that lives at the end, its present label and its capability sets."""
+    tag: str
+    label: str
+    caps: str
+
+
+@dataclass(frozen=True)
+class Refusal:
+    """The refusal of a line: its number, the part (`world`, `script`, `view`, `trail`, `select`) and the word of the fault."""
+    line: int
+    part: str
+    word: str
+
+    def __str__(self) -> str:
+        return f"refused {self.line} {self.part} {self.word}"
+
+
+class PlayingFault(Exception):
+    """`labsys` is missing, or it ended with a status that says nothing of its input."""
+
+
+class Refused(Exception):
+    """`labsys` refused a text: `refusal` says where, or is None where the text is too long."""
+
+    def __init__(self, text: bytes, refusal: Optional[Refusal]):
+        super().__init__(str(refusal) if refusal else "too long")
+        self.text = text
+        self.refusal = refusal
+
+
+def read_reply(number: int, words: Sequence[Word]) -> Reply:
+    """The reply that the words of a line have."""
+    tag, call, rest = words[0].text, words[1].text, list(words[2:])
+    path = rest.pop(0).value if call in UTILITIES else None
+    if rest[0].written == b"ok":
+        return Reply(number, tag, call, Outcome.DONE, words=tuple(rest[1:]), path=path)
+    names: List[Optional[str]] = [word.text for word in rest] + [None, None]
+    outcome = Outcome.DENIED if names[1] else Outcome.REFUSED
+    return Reply(number, tag, call, outcome, names[0], names[1], names[2], path=path)
+
+
+@dataclass(frozen=True)
+class Played:
+    """What a run of `labsys` wrote: its exit status, output, trail, and messages on standard error."""
+    status: int
+    out: bytes
+    trail: bytes
+    messages: bytes
+
+    @cached_property
+    def _lines(self) -> List[Tuple[Word, ...]]:
+        return [split_words(line)[0] for line in self.out.split(b"\n")[:-1]]
+
+    @cached_property
+    def replies(self) -> List[Reply]:
+        """The replies in the order of the calls; of a view, those that it shows, numbered in their order."""
+        shown = [words for words in self._lines if words and b"@" in words[0].value]
+        return [read_reply(number, words) for number, words in enumerate(shown, 1)]
+
+    @cached_property
+    def ends(self) -> Dict[str, End]:
+        """The end lines by the tags of their processes."""
+        ends = [words for words in self._lines if words and words[0].written == b"end"]
+        return {words[1].text: End(words[1].text, words[2].text, words[3].text) for words in ends}
+
+    @cached_property
+    def refusal(self) -> Optional[Refusal]:
+        """The refusal of the last line, if there is one."""
+        words = self._lines[-1] if self._lines else ()
+        if not words or words[0].written != b"refused":
+            return None
+        return Refusal(int(words[1].value), words[2].text, words[3].text)
+
+    @property
+    def crossed(self) -> bool:
+        """Whether a view ended at a crossing."""
+        return any(words and words[0].written == b"crossed" for words in self._lines)
+
+
+class Player:
+    """Runs `labsys`: `program` has the words of its command."""
+
+    def __init__(self, program: Sequence[str]):
+        self.program = list(program)
+        self.plays = 0
+
+    def run(self, words: Sequence[str], text: bytes) -> Tuple[int, bytes, bytes]:
+        """The exit status of a command of `labsys`, its output, and its messages. A status other than 0, 2 and 7 is a fault."""
+        with tempfile.TemporaryFile() as given, tempfile.TemporaryFile() as out, tempfile.TemporaryFile() as messages:
+            given.write(text)
+            given.seek(0)
+            try:
+                done = subprocess.run([*self.program, *words], stdin=given, stdout=out, stderr=messages, check=False)
+            except OSError as fault:
+                raise PlayingFault(f"{self.program[0]}: {fault.strerror}") from fault
+            out.seek(0)
+            messages.seek(0)
+            written, said = out.read(), messages.read()
+        self.plays += 1
+        if done.returncode not in ANSWERED:
+            last = said.decode("latin-1").strip().split("\n")[-1]
+            raise PlayingFault(f"{self.program[0]} ended with status {done.returncode}" + (f": {last}" if last else ""))
+        return done.returncode, written, said
+
+    def play(self, text: bytes) -> Played:
+        """Plays a world with its script. A refused text is no fault: `refusal` of the answer has it."""
+        with tempfile.TemporaryDirectory(prefix="labask-") as folder:
+            trail = pathlib.Path(folder) / "trail"
+            status, out, messages = self.run(["play", str(trail)], text)
+            return Played(status, out, trail.read_bytes() if trail.exists() else b"", messages)
+
+    def play_accepted(self, text: bytes) -> Played:
+        """Plays a world with its script, and raises `Refused` where a line is refused or the text is too long."""
+        played = self.play(text)
+        if played.status != STATUS_ACCEPTED:
+            raise Refused(text, played.refusal)
+        if not LAST_LINE.search(played.out):
+            raise PlayingFault(f"{self.program[0]} does not answer as labsys does")
+        return played
+
+    def check(self, text: bytes) -> Optional[Tuple[int, int, int]]:
+        """The numbers of objects, processes and calls of a text that is accepted; raises `Refused` for any other."""
+        status, out, messages = self.run(["check"], text)
+        if status != STATUS_ACCEPTED:
+            raise Refused(text, Played(status, out, b"", messages).refusal)
+        counts = COUNTS.fullmatch(out)
+        if counts is None:
+            raise PlayingFault(f"{self.program[0]} does not answer as labsys does")
+        objects, processes, calls = map(int, counts.groups())
+        return objects, processes, calls
+
+    def least(self, text: bytes) -> None:
+        """Whether `labsys least` accepts a text; raises `Refused` where it does not."""
+        status, out, messages = self.run(["least"], text)
+        if status != STATUS_ACCEPTED:
+            raise Refused(text, Played(status, out, b"", messages).refusal)
+
+    def view(self, label: str, text: bytes) -> Played:
+        """Plays a world with its script as a label sees it; there is no trail."""
+        status, out, messages = self.run(["view", label], text)
+        return Played(status, out, b"", messages)
+
+    def select(self, spec: str, trail: bytes) -> List[Dict[str, Any]]:
+        """The records of a trail that SPEC picks, each as the object that its line of JSON has; raises `Refused` for a fault."""
+        status, out, messages = self.run(["select", spec], trail)
+        if status != STATUS_ACCEPTED:
+            raise Refused(trail, Played(status, out, b"", messages).refusal)
+        return json.loads("[" + ",".join(out.decode("ascii").split("\n")[:-2]) + "]")
+
+
+class Session:
+    """A run of `labsys` that is asked call by call: a line is sent, and its replies are read.
+
+    Used as a context; the process ends with it. `replies` counts the calls that were made so far, and `sent`
+    the bytes of the input.
+    """
+    BATCH_BYTES = 16_384  # less than a pipe holds, so that sending never waits for replies to be read
+    MOST_READ = 4_096  # replies that are kept, since most are the same but for their tag
+
+    def __init__(self, player: Player, head: bytes):
+        self.player, self.head, self.replies, self.sent = player, head, 0, 0
+        self._read: Dict[bytes, Reply] = {}
+        self._folder = tempfile.TemporaryDirectory(prefix="labask-")
+        self.trail_path = pathlib.Path(self._folder.name) / "trail"
+
+    def __enter__(self) -> "Session":
+        try:
+            self._run = subprocess.Popen([*self.player.program, "play", str(self.trail_path)], stdin=subprocess.PIPE,
+                                         stdout=subprocess.PIPE, stderr=subprocess.DEVNULL)
+        except OSError as fault:
+            self._folder.cleanup()
+            raise PlayingFault(f"{self.player.program[0]}: {fault.strerror}") from fault
+        self.player.plays += 1
+        self._send(self.head)
+        return self
+
+    def __exit__(self, *_: object) -> None:
+        for end in (self._run.stdin, self._run.stdout):
+            try:
+                end.close()
+            except BrokenPipeError:
+                pass
+        self._run.wait()
+        self._folder.cleanup()
+
+    def _send(self, text: bytes) -> None:
+        self.sent += len(text)
+        try:
+            self._run.stdin.write(text)
+            self._run.stdin.flush()
+        except BrokenPipeError as fault:
+            raise PlayingFault(f"{self.player.program[0]} ended before its input") from fault
+
+    def _reply(self) -> Reply:
+        line = self._run.stdout.readline()
+        tag, _, rest = line.partition(b" ")
+        if b"@" not in tag or not rest:
+            last = Played(STATUS_REFUSED, line, b"", b"")
+            raise Refused(self.head, last.refusal) if last.refusal else PlayingFault("labsys ended before its input")
+        self.replies += 1
+        if rest not in self._read:
+            self._read = self._read if len(self._read) < self.MOST_READ else {}
+            self._read[rest] = read_reply(0, split_words(line.rstrip(b"\n"))[0])
+        return replace(self._read[rest], number=self.replies, tag=tag.decode("latin-1"))
+
+    def line(self, text: str, calls: int = 1) -> List[Reply]:
+        """The replies to a line of the script that makes so many calls."""
+        self._send(text.encode("latin-1") + b"\n")
+        return [self._reply() for _ in range(calls)]
+
+    def call(self, text: str) -> Reply:
+        """The reply to a line that makes one call."""
+        return self.line(text)[0]
+
+    def calls(self, texts: Sequence[str]) -> List[Reply]:
+        """The replies to lines that make one call each; they are sent many at a time."""
+        found: List[Reply] = []
+        batch: List[bytes] = []
+        size = 0
+        for text in texts:
+            line = text.encode("latin-1") + b"\n"
+            if size + len(line) > self.BATCH_BYTES:
+                found += self._batch(batch)
+                batch, size = [], 0
+            batch.append(line)
+            size += len(line)
+        return found + self._batch(batch)
+
+    def _batch(self, lines: Sequence[bytes]) -> List[Reply]:
+        self._send(b"".join(lines))
+        return [self._reply() for _ in lines]
+
+    def records(self) -> List[Dict[str, Any]]:
+        """All records that were written so far, as `select` gives them."""
+        return self.player.select("all", self.trail_path.read_bytes())
+
+
+def candidates(given: Optional[str]) -> Iterator[Optional[str]]:
+    """Where `labsys` may be: as given, as LABSYS has it, beside the folder of this file, or on PATH."""
+    if given:
+        yield given
+        return
+    if os.environ.get("LABSYS"):
+        yield os.environ["LABSYS"]
+        return
+    beside = str(pathlib.Path(__file__).resolve().parents[3] / "labsys")
+    yield beside if os.access(beside, os.X_OK) else None
+    yield shutil.which("labsys")
+
+
+def find_program(given: Optional[str] = None) -> str:
+    """The path of `labsys`; raises `PlayingFault` where there is none."""
+    found = next((name for name in candidates(given) if name), None)
+    whole = shutil.which(found) if found else None
+    if whole is None:
+        raise PlayingFault(f"there is no program {found}" if found else "there is no program labsys")
+    path = os.path.abspath(whole)
+    require_labsys(path)
+    return path
+
+
+@functools.lru_cache(maxsize=None)
+def require_labsys(path: str) -> None:
+    """Raises `PlayingFault` where a program does not say, when it is asked for its version, that it is `labsys`."""
+    try:
+        run = subprocess.Popen([path, "--version"], stdin=subprocess.DEVNULL, stdout=subprocess.PIPE, stderr=subprocess.DEVNULL,
+                               start_new_session=True)
+    except OSError as fault:
+        raise PlayingFault(f"{path}: {fault.strerror}") from fault
+    try:
+        line, late = first_line(run.stdout.fileno())
+    finally:
+        end_session(run)
+    if not VERSION.match(line):
+        said = f"did not answer within {FIRST_SECONDS:.0f} seconds" if late else f"answered {quoted(line)}"
+        raise PlayingFault(f"{path} is not labsys: asked for its version, it {said}")
+
+
+def first_line(descriptor: int) -> Tuple[bytes, bool]:
+    """The beginning of the first line that a program writes to a pipe, and whether the time for it was over."""
+    line, end = b"", time.monotonic() + FIRST_SECONDS
+    while b"\n" not in line and len(line) < FIRST_BYTES:
+        if not select.select([descriptor], [], [], max(0.0, end - time.monotonic()))[0]:
+            return line, True
+        piece = os.read(descriptor, FIRST_BYTES - len(line))
+        if not piece:
+            break
+        line += piece
+    return line.partition(b"\n")[0], False
+
+
+def end_session(run: "subprocess.Popen[bytes]") -> None:
+    """Ends a program that has a session of its own, and what it has started there."""
+    with run:
+        try:
+            os.killpg(run.pid, signal.SIGKILL)
+        except ProcessLookupError:
+            pass
