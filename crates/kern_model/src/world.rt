@@ -16,11 +16,8 @@ pub struct WorldObject {
     pub body: Body,
 }
 
-impl WorldObject {
-    /// A copy of the object.
-    pub fn copy(&self) -> Result<WorldObject, NoMemory>
-        ensures { IfOk result (λ object. object ≡ self.now) }
-    {
+impl TryCopy for WorldObject {
+    fn copy(&self) -> Result<WorldObject, NoMemory> {
         Ok(WorldObject {
             path: self.path.copy()?,
             label: self.label,
@@ -48,11 +45,8 @@ impl Drop for WorldProc {
     }
 }
 
-impl WorldProc {
-    /// A copy of the process.
-    pub fn copy(&self) -> Result<WorldProc, NoMemory>
-        ensures { IfOk result (λ process. process ≡ self.now) }
-    {
+impl TryCopy for WorldProc {
+    fn copy(&self) -> Result<WorldProc, NoMemory> {
         Ok(WorldProc {
             label: self.label,
             ids: self.ids.copy()?,
@@ -83,22 +77,18 @@ pub struct World {
     pub procs: ProcList,
 }
 
-fn copy_objects(alloc: Global, objects: &[WorldObject]) -> Result<ObjectList, NoMemory>
-    ensures { IfOk result (λ copy. copy ≡ objects.now) }
-{
-    let mut copy = ObjectList::with_capacity(alloc, objects.len())?;
-    for object in objects {
-        copy.push(object.copy()?)?;
-    }
-    Ok(copy)
+// An item of a world, of which a copy may be out of memory.
+trait TryCopy: Sized {
+    fn copy(&self) -> Result<Self, NoMemory>
+        ensures { IfOk result (λ copy. copy ≡ self.now) };
 }
 
-fn copy_processes(alloc: Global, processes: &[WorldProc]) -> Result<ProcList, NoMemory>
-    ensures { IfOk result (λ copy. copy ≡ processes.now) }
+fn copy_items<T: TryCopy + Drop>(alloc: Global, items: &[T]) -> Result<List<T>, NoMemory>
+    ensures { IfOk result (λ copy. copy ≡ items.now) }
 {
-    let mut copy = ProcList::with_capacity(alloc, processes.len())?;
-    for process in processes {
-        copy.push(process.copy()?)?;
+    let mut copy = List::with_capacity(alloc, items.len())?;
+    for item in items {
+        copy.push(item.copy()?)?;
     }
     Ok(copy)
 }
@@ -111,8 +101,8 @@ impl World {
         Ok(World {
             top: self.top,
             bound: self.bound,
-            objects: copy_objects(alloc, self.objects.items())?,
-            procs: copy_processes(alloc, self.procs.items())?,
+            objects: copy_items(alloc, self.objects.items())?,
+            procs: copy_items(alloc, self.procs.items())?,
         })
     }
 }

@@ -5,7 +5,7 @@ ghost use Rattle.least_caps.specs.Narrowed.{attr_narrowed, caps_narrowed, file_n
 
 use cap_bits::{CapSet, CapState, FileCaps};
 use fs_path::{List, NoMemory};
-use kern_model::{Attr, ObjectList, ProcList, World, WorldObject, WorldProc};
+use kern_model::{Attr, World, WorldObject, WorldProc};
 use std::alloc::Global;
 
 // The three sets without some capabilities.
@@ -32,54 +32,55 @@ fn file_narrowed(caps: &FileCaps, drop: CapSet) -> FileCaps
     }
 }
 
-fn object_narrowed(object: &WorldObject, drop: CapSet) -> Result<WorldObject, NoMemory>
-    ensures { IfOk result (λ narrow. narrow ≡ object_narrowed drop object.now) }
-{
-    Ok(WorldObject {
-        path: object.path.copy()?,
-        label: object.label,
-        attr: Attr {
-            caps: file_narrowed(&object.attr.caps, drop),
-            ..object.attr
-        },
-        body: object.body.copy()?,
-    })
+// What of a world has capabilities.
+trait CapHolder: Sized {
+    ghost use Rattle.cap_bits.specs.CapSet.{CapSet as Dropped};
+
+    ghost narrowed: { Dropped → Self → Self };
+
+    // A copy without some capabilities.
+    fn without(&self, drop: CapSet) -> Result<Self, NoMemory>
+        ensures { IfOk result (λ narrow. narrow ≡ narrowed drop self.now) };
 }
 
-fn process_narrowed(process: &WorldProc, drop: CapSet) -> Result<WorldProc, NoMemory>
-    ensures { IfOk result (λ narrow. narrow ≡ process_narrowed drop process.now) }
-{
-    Ok(WorldProc {
-        label: process.label,
-        ids: process.ids.copy()?,
-        caps: caps_narrowed(&process.caps, drop),
-    })
-}
+impl CapHolder for WorldObject {
+    ghost narrowed = { object_narrowed };
 
-fn objects_narrowed(
-    alloc: Global,
-    objects: &[WorldObject],
-    drop: CapSet,
-) -> Result<ObjectList, NoMemory>
-    ensures { IfOk result (λ narrow. narrow ≡ map (object_narrowed drop) objects.now) }
-{
-    let mut narrow = List::with_capacity(alloc, objects.len())?;
-    for object in objects {
-        narrow.push(object_narrowed(object, drop)?)?;
+    fn without(&self, drop: CapSet) -> Result<WorldObject, NoMemory> {
+        Ok(WorldObject {
+            path: self.path.copy()?,
+            label: self.label,
+            attr: Attr {
+                caps: file_narrowed(&self.attr.caps, drop),
+                ..self.attr
+            },
+            body: self.body.copy()?,
+        })
     }
-    Ok(narrow)
 }
 
-fn processes_narrowed(
+impl CapHolder for WorldProc {
+    ghost narrowed = { process_narrowed };
+
+    fn without(&self, drop: CapSet) -> Result<WorldProc, NoMemory> {
+        Ok(WorldProc {
+            label: self.label,
+            ids: self.ids.copy()?,
+            caps: caps_narrowed(&self.caps, drop),
+        })
+    }
+}
+
+fn items_narrowed<T: CapHolder + Drop>(
     alloc: Global,
-    processes: &[WorldProc],
+    items: &[T],
     drop: CapSet,
-) -> Result<ProcList, NoMemory>
-    ensures { IfOk result (λ narrow. narrow ≡ map (process_narrowed drop) processes.now) }
+) -> Result<List<T>, NoMemory>
+    ensures { IfOk result (λ narrow. narrow ≡ map (T.narrowed drop) items.now) }
 {
-    let mut narrow = List::with_capacity(alloc, processes.len())?;
-    for process in processes {
-        narrow.push(process_narrowed(process, drop)?)?;
+    let mut narrow = List::with_capacity(alloc, items.len())?;
+    for item in items {
+        narrow.push(item.without(drop)?)?;
     }
     Ok(narrow)
 }
@@ -95,7 +96,7 @@ pub fn narrow(alloc: Global, world: &World, drop: &CapSet) -> Result<World, NoMe
     Ok(World {
         top: world.top,
         bound: world.bound.minus(*drop),
-        objects: objects_narrowed(alloc, world.objects.items(), *drop)?,
-        procs: processes_narrowed(alloc, world.procs.items(), *drop)?,
+        objects: items_narrowed(alloc, world.objects.items(), *drop)?,
+        procs: items_narrowed(alloc, world.procs.items(), *drop)?,
     })
 }
