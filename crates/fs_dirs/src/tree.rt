@@ -288,7 +288,10 @@ impl Tree {
         ensures err { OnErr result (self.new.nodes.table ≡ self.old.nodes.table) }
         ensures entries { self.new.entries ≡ self.old.entries }
     {
-        self.nodes.create(label, attr, body)
+        if !self.nodes.can_create(&label) {
+            return Err(NodeError::Full);
+        }
+        Ok(self.create_next(label, attr, body)?)
     }
 
     /// The same for a caller who knows that a number of the label is left.
