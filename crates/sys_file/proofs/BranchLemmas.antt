@@ -1,5 +1,5 @@
 -- Rows that go one of two ways.
-use Rattle.std.specs.Prelude.{◌≡◌, Bool, true, false, None, Result, Ok, Err, IfOk, OnOk, cond, refl}
+use Rattle.std.specs.Prelude.{◌≡◌, Bool, true, false, None, Result, Ok, Err, cond, refl}
 use Rattle.std.proofs.Common.{sym, subst, ◌∙◌}
 use Rattle.kern_model.specs.declared.calls.Answer.{Answer}
 use Rattle.kern_model.specs.Row.{Row}
@@ -35,14 +35,6 @@ plays_in {t = t} {a = a} {b = b} {r = r} row same plays = subst (λ (x : State).
 -- an effect with an equal answer
 pub answering : {effect : Effect} {given answer : Answer} → effect ≡ record { answer = given; own = None } → given ≡ answer → effect ≡ record { answer = answer; own = None }
 answering is same = is ∙ (λ i. record { answer = same i; own = None })
-
--- what holds of a result holds of an equal one
-module _ {X E : Type 0} {r given : Result X E} (same : r ≡ given) where
-  pub on_ok : (Q : Type 0) → OnOk given Q → OnOk r Q
-  on_ok Q holds = subst (λ x. OnOk x Q) (sym same) holds
-
-  pub if_ok : (Q : X → Type 0) → IfOk given Q → IfOk r Q
-  if_ok Q holds = subst (λ x. IfOk x Q) (sym same) holds
 
 -- What a condition is that decides whether a result is a value or an error.
 module _ {X E : Type 0} {r : Result X E} {x : X} {e : E} where

@@ -13,6 +13,8 @@ use Rattle.fs_nodes.specs.Nodes.{IsFile}
 use Rattle.sys_lookup.specs.declared.found.Found.{Found}
 use Rattle.sys_lookup.specs.declared.found.Found.TheVariants as found
 use Rattle.sys_file.specs.declared.opening.OpenRequest.{OpenRequest}
+use Rattle.sys_file.specs.declared.opening.Target.{Target}
+use Rattle.sys_file.specs.declared.opening.Target.TheVariants as target
 
 -- the row of `open` that a process calls with what is asked for
 abbrev pub request_row : State → Pid → OpenRequest → Row
@@ -30,6 +32,11 @@ opens_file s who request spot = opens_new s who (process_at s who) request.flags
 abbrev pub object_found : Found → Option Oid
 object_found (found.Start id) = Some id
 object_found (found.Entry dir name object) = object
+
+-- what is to be opened after a walk: the object that it found, or a file to be made where the last name leads to none
+abbrev pub IsTarget : Found → Target → Type 0
+IsTarget walked (target.Present id) = object_found walked ≡ Some id
+IsTarget walked (target.Absent spot) = walked ≡ found.Entry spot.0 spot.1 None
 
 -- only a file is emptied
 abbrev pub EmptiesFiles : State → Oid → Option Attr → Type 0

@@ -1,5 +1,5 @@
 // The call `open`.
-ghost use Rattle.std.specs.Prelude.{◌≡◌, ◌&&◌, [], None, Some, IfOk, IsSome, MatchResult, OnOk, false, true};
+ghost use Rattle.std.specs.Prelude.{◌≡◌, ◌&&◌, [], None, Some, IfOk, IsSome, OnOk, false, true};
 ghost use Rattle.std.specs.FinMap as map;
 ghost use Rattle.kern_model.specs.Arguments.{are_names};
 ghost use Rattle.kern_model.specs.Descriptors.{lowest_free};
@@ -17,7 +17,7 @@ ghost use Rattle.fs_nodes.specs.Nodes.{IsFile};
 ghost use Rattle.sys_lookup.specs.PlaysRow.{PlaysRow};
 ghost use Rattle.sys_lookup.specs.Shared.{metadata_of};
 ghost use Rattle.sys_lookup.specs.StepOn.{StepOn};
-ghost use Rattle.sys_file.specs.Opening.{CanBeEmptied, EmptiesFiles, object_found, opens_file, opens_object, request_row};
+ghost use Rattle.sys_file.specs.Opening.{CanBeEmptied, EmptiesFiles, IsTarget, opens_file, opens_object, request_row};
 
 use chk_rules::{Checks, Stop, refuse_if};
 use fd_table::How;
@@ -53,13 +53,13 @@ pub fn open(
     let caller = Caller::new(shared, who);
     caller.may_open(1)?;
     let found = caller.walk(checks, PathArgument::First, path)?;
-    match object_or_spot(found) {
-        Ok(id) => {
+    match Target::from(found) {
+        Target::Present(id) => {
             let place = PathArgument::First.last_place(path);
             let emptied = may_open(&caller, checks, flags, &id, place)?;
             open_present(shared, who, &id, flags, emptied)
         }
-        Err(spot) => {
+        Target::Absent(spot) => {
             let place = PathArgument::First.dir_place(path);
             may_make(&caller, checks, flags, &spot.0, place)?;
             open_new(alloc, shared, who, &spot, opening)
@@ -67,13 +67,21 @@ pub fn open(
     }
 }
 
-// The object that was found, or else the directory and the name that leads to none.
-fn object_or_spot(found: Found<'_>) -> Result<Oid, Spot<'_>>
-    ensures { MatchResult result (λ id. object_found found.entry ≡ Some id) (λ spot. found.entry ≡ Found.Entry spot.0 spot.1 None) }
-{
-    match found {
-        Found::Start(id) | Found::Entry(_, _, Some(id)) => Ok(id),
-        Found::Entry(dir, name, None) => Err((dir, name)),
+// What `open` is to open: an object that is there, or a file that is to be made, by its directory and a name that leads to none.
+#[derive(Drop)]
+enum Target<'a> {
+    Present(Oid),
+    Absent(Spot<'a>),
+}
+
+impl<'a> From<Found<'a>> for Target<'a> {
+    fn from(found: Found<'a>) -> Self
+        ensures { IsTarget found.entry result }
+    {
+        match found {
+            Found::Start(id) | Found::Entry(_, _, Some(id)) => Target::Present(id),
+            Found::Entry(dir, name, None) => Target::Absent((dir, name)),
+        }
     }
 }
 

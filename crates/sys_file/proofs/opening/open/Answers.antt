@@ -23,19 +23,19 @@ returns-in_err-found-clause-played c = walk_stops c.new-caller.ensures.caller c.
 
 -- ---- an object is there
 
-pub returns-in_err-emptied-in-Ok-clause-played : goal.returns-in_err-emptied-in-Ok-clause-played
-returns-in_err-emptied-in-Ok-clause-played c =
-    present_stops c.new-caller.ensures.caller c.args.opening.now (c.in_ok-may_open.ensures.step c.args.checks.now) c.in_ok-found.found c.in_ok-found.ensures.step c.in-Ok.ensures c.last_place-place.ensures
-    c.from_residual-in_err-emptied-in-Ok.ensures.1 c.in_err-emptied-in-Ok.ensures.step
+pub returns-in_err-emptied-in-Present-clause-played : goal.returns-in_err-emptied-in-Present-clause-played
+returns-in_err-emptied-in-Present-clause-played c =
+    present_stops c.new-caller.ensures.caller c.args.opening.now (c.in_ok-may_open.ensures.step c.args.checks.now) c.in_ok-found.found c.in_ok-found.ensures.step c.in-Present.ensures c.last_place-place.ensures
+    c.from_residual-in_err-emptied-in-Present.ensures.1 c.in_err-emptied-in-Present.ensures.step
 
-pub returns-in_ok-emptied-in-Ok-clause-played : goal.returns-in_ok-emptied-in-Ok-clause-played
-returns-in_ok-emptied-in-Ok-clause-played c =
-    present_plays c.new-caller.ensures.caller c.args.opening.now (c.in_ok-may_open.ensures.step c.args.checks.now) c.in_ok-found.found c.in_ok-found.ensures.step c.in-Ok.ensures c.last_place-place.ensures
-    c.in_ok-emptied-in-Ok.ensures.step (c.open_present.ensures c.may_open-in-Ok.new.checks)
+pub returns-in_ok-emptied-in-Present-clause-played : goal.returns-in_ok-emptied-in-Present-clause-played
+returns-in_ok-emptied-in-Present-clause-played c =
+    present_plays c.new-caller.ensures.caller c.args.opening.now (c.in_ok-may_open.ensures.step c.args.checks.now) c.in_ok-found.found c.in_ok-found.ensures.step c.in-Present.ensures c.last_place-place.ensures
+    c.in_ok-emptied-in-Present.ensures.step (c.open_present.ensures c.may_open-in-Present.new.checks)
 
 pub open_present-requires-clause-file : goal.open_present-requires-clause-file
 open_present-requires-clause-file c =
-    found_empties c.new-caller.ensures.caller c.args.opening.now.path.now c.in_ok-found.found c.in_ok-found.ensures.found c.requires.valid c.requires.living c.in-Ok.id c.in-Ok.ensures c.in_ok-emptied-in-Ok.emptied c.in_ok-emptied-in-Ok.ensures.files
+    found_empties c.new-caller.ensures.caller c.args.opening.now.path.now c.in_ok-found.found c.in_ok-found.ensures.found c.requires.valid c.requires.living c.in-Present.id c.in-Present.ensures c.in_ok-emptied-in-Present.emptied c.in_ok-emptied-in-Present.ensures.files
 
 pub open_present-requires-clause-free : goal.open_present-requires-clause-free
 open_present-requires-clause-free c = ap (λ (k : CallerView). has_free_descriptors k.process 1) (sym c.new-caller.ensures.caller) ∙ c.in_ok-may_open.ensures.free
@@ -45,15 +45,15 @@ open_present-requires-clause-left c = ap (λ (k : CallerView). has_descriptions 
 
 -- ---- nothing has the name
 
-pub returns-in_err-may_make-in-Err-clause-played : goal.returns-in_err-may_make-in-Err-clause-played
-returns-in_err-may_make-in-Err-clause-played c =
-    absent_stops c.new-caller.ensures.caller c.args.opening.now (c.in_ok-may_open.ensures.step c.args.checks.now) c.in_ok-found.found c.in_ok-found.ensures.step c.in-Err.ensures c.dir_place-place.ensures
-    c.from_residual-in_err-may_make-in-Err.ensures.1 c.in_err-may_make-in-Err.ensures.step
+pub returns-in_err-may_make-in-Absent-clause-played : goal.returns-in_err-may_make-in-Absent-clause-played
+returns-in_err-may_make-in-Absent-clause-played c =
+    absent_stops c.new-caller.ensures.caller c.args.opening.now (c.in_ok-may_open.ensures.step c.args.checks.now) c.in_ok-found.found c.in_ok-found.ensures.step c.in-Absent.ensures c.dir_place-place.ensures
+    c.from_residual-in_err-may_make-in-Absent.ensures.1 c.in_err-may_make-in-Absent.ensures.step
 
-pub returns-in_ok-may_make-in-Err-clause-played : goal.returns-in_ok-may_make-in-Err-clause-played
-returns-in_ok-may_make-in-Err-clause-played c =
-    absent_plays c.new-caller.ensures.caller c.args.opening.now (c.in_ok-may_open.ensures.step c.args.checks.now) c.in_ok-found.found c.in_ok-found.ensures.step c.in-Err.ensures c.dir_place-place.ensures
-    c.in_ok-may_make-in-Err.ensures.step (c.open_new.ensures c.may_make.new.checks)
+pub returns-in_ok-may_make-in-Absent-clause-played : goal.returns-in_ok-may_make-in-Absent-clause-played
+returns-in_ok-may_make-in-Absent-clause-played c =
+    absent_plays c.new-caller.ensures.caller c.args.opening.now (c.in_ok-may_open.ensures.step c.args.checks.now) c.in_ok-found.found c.in_ok-found.ensures.step c.in-Absent.ensures c.dir_place-place.ensures
+    c.in_ok-may_make-in-Absent.ensures.step (c.open_new.ensures c.may_make.new.checks)
 
 pub open_new-requires-clause-free : goal.open_new-requires-clause-free
 open_new-requires-clause-free c = ap (λ (k : CallerView). has_free_descriptors k.process 1) (sym c.new-caller.ensures.caller) ∙ c.in_ok-may_open.ensures.free
@@ -62,10 +62,10 @@ pub open_new-requires-clause-left : goal.open_new-requires-clause-left
 open_new-requires-clause-left c = ap (λ (k : CallerView). has_descriptions k.state k.process 1) (sym c.new-caller.ensures.caller) ∙ c.in_ok-may_open.ensures.left
 
 pub open_new-requires-clause-dir : goal.open_new-requires-clause-dir
-open_new-requires-clause-dir c = (entry_found c.new-caller.ensures.caller c.args.opening.now.path.now c.in_ok-found.found c.in_ok-found.ensures.found c.in-Err.ensures).is_dir
+open_new-requires-clause-dir c = (entry_found c.new-caller.ensures.caller c.args.opening.now.path.now c.in_ok-found.found c.in_ok-found.ensures.found c.in-Absent.ensures).is_dir
 
 pub open_new-requires-clause-stands : goal.open_new-requires-clause-stands
-open_new-requires-clause-stands c = ap (λ (k : CallerView). is_removed k.state c.in-Err.spot.0) (sym c.new-caller.ensures.caller) ∙ c.in_ok-may_make-in-Err.ensures.stands
+open_new-requires-clause-stands c = ap (λ (k : CallerView). is_removed k.state c.in-Absent.spot.0) (sym c.new-caller.ensures.caller) ∙ c.in_ok-may_make-in-Absent.ensures.stands
 
 pub open_new-requires-clause-absent : goal.open_new-requires-clause-absent
-open_new-requires-clause-absent c = (entry_found c.new-caller.ensures.caller c.args.opening.now.path.now c.in_ok-found.found c.in_ok-found.ensures.found c.in-Err.ensures).leads
+open_new-requires-clause-absent c = (entry_found c.new-caller.ensures.caller c.args.opening.now.path.now c.in_ok-found.found c.in_ok-found.ensures.found c.in-Absent.ensures).leads
