@@ -11,9 +11,8 @@ use Rattle.world_text.specs.declared.expecting.Expecting.{Expecting}
 use Rattle.world_text.specs.declared.expecting.Expecting.TheVariants as at
 use Rattle.world_text.specs.declared.expecting.Parsed.{Parsed}
 use Rattle.world_text.specs.declared.expecting.Parsed.TheVariants.{Refuses, GoesOn, Begins}
-use Rattle.world_text.specs.CanBeRead.{HasShortLines}
 use Rattle.world_text.specs.Expecting.{parse_line}
-use Rattle.world_text.specs.Written.{next_number, text_of_world}
+use Rattle.world_text.specs.Written.{next_number}
 
 -- how the reading of a world ends
 pub data Reading : Type 0 where
