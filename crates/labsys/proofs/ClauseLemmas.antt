@@ -76,10 +76,14 @@ moved l l' e e' taken took sent sends P text before above el eo et p =
       holds = p;
     }
 
+-- the same bytes, of which this holds
+pub moved_with : {text before above : List ℕ} {now : Reports} {P Q : List ℕ → List ℕ → List ℕ → Type 0} (m : Moved text before above now P) → Q text m.out m.trail → Moved text before above now Q
+moved_with m holds = record { taken = m.taken; rest = m.rest; out = m.out; trail = m.trail; text_is = m.text_is; left_is = m.left_is; out_is = m.out_is; trail_is = m.trail_is; holds = holds }
+
 pub reported_gives : (old now : Reports) (P Q : List ℕ → List ℕ → List ℕ → Type 0) → ((text out trail : List ℕ) → P text out trail → Q text out trail) → WhereReported old now P → WhereReported old now Q
 reported_gives old now P Q f w text before above el eo et =
     let m = w text before above el eo et in
-    record { taken = m.taken; rest = m.rest; out = m.out; trail = m.trail; text_is = m.text_is; left_is = m.left_is; out_is = m.out_is; trail_is = m.trail_is; holds = f text m.out m.trail m.holds }
+    moved_with m (f text m.out m.trail m.holds)
 
 -- what both clauses say of what was appended
 pub reported_both : (old now : Reports) (P Q : List ℕ → List ℕ → List ℕ → Type 0) → WhereReported old now P → WhereReported old now Q → WhereReported old now (λ text out trail. P text out trail × Q text out trail)
@@ -88,17 +92,7 @@ reported_both old now P Q v w text before above el eo et =
     let n = w text before above el eo et in
     let out : n.out ≡ m.out = appended before n.out m.out now.out n.out_is m.out_is in
     let trail : n.trail ≡ m.trail = appended above n.trail m.trail now.trail n.trail_is m.trail_is in
-    record {
-      taken = m.taken;
-      rest = m.rest;
-      out = m.out;
-      trail = m.trail;
-      text_is = m.text_is;
-      left_is = m.left_is;
-      out_is = m.out_is;
-      trail_is = m.trail_is;
-      holds = (m.holds, subst (λ (x : List ℕ × List ℕ). Q text x.0 x.1) {x = (n.out, n.trail)} (λ i. (out i, trail i)) n.holds);
-    }
+    moved_with m (m.holds, subst (λ (x : List ℕ × List ℕ). Q text x.0 x.1) {x = (n.out, n.trail)} (λ i. (out i, trail i)) n.holds)
   where
     appended : (held xs ys : List ℕ) (now : Option (List ℕ)) → now ≡ Some (held ++ xs) → now ≡ Some (held ++ ys) → xs ≡ ys
     appended held xs ys now first second = let same : held ++ xs ≡ held ++ ys = cc in append_cancel_left held xs ys same
@@ -535,14 +529,4 @@ run_upgrade r l l' entry exit x s is back = record { upgraded = upgraded_by }
         let i = upgrade_of text in
         let whole : i.script.ending ≡ Whole = ends_whole i.script.ending (ends text el) in
         let read = where_done r (WorldReadsBack i) (sym done ∙ is) (back text el) in
-        record {
-          taken = m.taken;
-          rest = m.rest;
-          out = m.out;
-          trail = m.trail;
-          text_is = m.text_is;
-          left_is = m.left_is;
-          out_is = m.out_is;
-          trail_is = m.trail_is;
-          holds = upgraded text m.out whole (λ a accepted. (read a accepted, m.holds.0 ∙ text_upgraded i a accepted whole));
-        }
+        moved_with m (upgraded text m.out whole (λ a accepted. (read a accepted, m.holds.0 ∙ text_upgraded i a accepted whole)))

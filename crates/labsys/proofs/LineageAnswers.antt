@@ -29,7 +29,7 @@ use Rattle.labsys.specs.LineageText.{SaysLineage, SaysNo, SaysYes, ending_of_lin
 use Rattle.labsys.specs.Playing.{CommandDid}
 use Rattle.labsys.specs.Promises.{ChecksLineage}
 use Rattle.labsys.specs.Trails.{trail_by, trail_in}
-use Rattle.labsys.proofs.ClauseLemmas.{did_used, ends_by, ends_whole, run_all}
+use Rattle.labsys.proofs.ClauseLemmas.{did_used, ends_by, ends_whole, moved_with, run_all}
 use Rattle.labsys.proofs.TrailLemmas.{not_whole}
 
 -- ---- a trail
@@ -93,14 +93,4 @@ run_lineage r l l' entry exit x s is = record { answers = answered }
         let all = subst (λ z. OnWhole z (WhereReported (reports_used Lineage (reports l entry.out.held entry.trail.held)) (reports_used Lineage (reports l' exit.out.held exit.trail.held)) (λ text out trail. (out ≡ out_of (due Lineage text).order) × (trail ≡ trail_of (due Lineage text).order)))) done (run_all Lineage r _ _ _ _ (did_used Lineage r l l' entry exit x) s is) in
         let ends = subst (λ z. OnWhole z ((text : List ℕ) → if_used (reads_source Lineage) l ≡ Some text → z ≡ (due Lineage text).status)) done (ends_by Lineage r _ _ _ _ (did_used Lineage r l l' entry exit x) s is) in
         let m = all text before above el eo et in
-        record {
-          taken = m.taken;
-          rest = m.rest;
-          out = m.out;
-          trail = m.trail;
-          text_is = m.text_is;
-          left_is = m.left_is;
-          out_is = m.out_is;
-          trail_is = m.trail_is;
-          holds = says_lineage text m.out (trail_in text) refl (ends text el) (m.holds.0 ∙ out_of-to_out (text_of_lineage (trail_in text)));
-        }
+        moved_with m (says_lineage text m.out (trail_in text) refl (ends text el) (m.holds.0 ∙ out_of-to_out (text_of_lineage (trail_in text))))

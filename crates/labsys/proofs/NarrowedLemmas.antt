@@ -39,7 +39,7 @@ use Rattle.labsys.specs.Least.{NarrowedReadsBack, NarrowedTo, least_text, least_
 use Rattle.labsys.specs.Playing.{CommandDid}
 use Rattle.labsys.specs.Promises.{Narrows}
 use Rattle.labsys.proofs.AcceptedLemmas.{accepted_input}
-use Rattle.labsys.proofs.ClauseLemmas.{did_used, ends_by, ends_whole, only_done, run_all}
+use Rattle.labsys.proofs.ClauseLemmas.{did_used, ends_by, ends_whole, moved_with, only_done, run_all}
 
 -- ---- the first line
 
@@ -186,16 +186,6 @@ run_least r l l' entry exit x s is back = record { narrowed = narrowed_by }
         let i = least_of text in
         let p = played_whole text (ends_whole i.script.ending (ends text el)) in
         let read = subst (λ (q : Result InputEnd Fault). IfOk q (NarrowedReadsBack i)) (only_done r (sym is ∙ done)) (back text el) refl p.world (ap (λ (i : Input). i.accepted) p.least_is) in
-        record {
-          taken = m.taken;
-          rest = m.rest;
-          out = m.out;
-          trail = m.trail;
-          text_is = m.text_is;
-          left_is = m.left_is;
-          out_is = m.out_is;
-          trail_is = m.trail_is;
-          holds = narrowed_to text m.out p
-              (subst (λ (s : Script). ReadsBack (least_world p.world (needed_by p.world s))) (ap (λ (i : Input). i.script) p.least_is) read)
-              (m.holds.0 ∙ out_of-to_out (text_of_least i.accepted i.script) ∙ ap (λ (i : Input). text_of_least i.accepted i.script) p.least_is);
-        }
+        moved_with m (narrowed_to text m.out p
+        (subst (λ (s : Script). ReadsBack (least_world p.world (needed_by p.world s))) (ap (λ (i : Input). i.script) p.least_is) read)
+        (m.holds.0 ∙ out_of-to_out (text_of_least i.accepted i.script) ∙ ap (λ (i : Input). text_of_least i.accepted i.script) p.least_is))
