@@ -17,7 +17,7 @@ use Rattle.world_text.specs.declared.expecting.Expecting.TheVariants as at
 use Rattle.world_text.specs.declared.format.Format.TheVariants.{Two}
 use Rattle.world_text.specs.Reading.{Accepted as AcceptedWorld, Reading, read_lines, read_text}
 use Rattle.lab_engine.specs.declared.ending.InputEnd.TheVariants.{Whole}
-use Rattle.lab_engine.specs.Input.{Accepted, Input, Script, after_line, begun_by, begun_in, input_from, input_in, input_of, of_world, script_from}
+use Rattle.lab_engine.specs.Input.{Accepted, Input, Script, ScriptLines, after_line, begun_by, begun_in, input_from, input_in, input_of, lines_from, of_world, script_of, takes_all}
 use Rattle.lab_engine.proofs.GeneratedLines.{IsCall, is_call, policy}
 use Rattle.lab_engine.proofs.GeneratedWorld.{generated_world, head_read, its_names, four_procs}
 
@@ -38,18 +38,22 @@ before_last : (ls : List (List ℕ)) → IsMore (ls ++ [] ∷ [])
 before_last [] = record { first = []; rest = []; is = refl }
 before_last (l ∷ ls) = record { first = l; rest = ls ++ [] ∷ []; is = refl }
 
-line_more : (n : ℕ) (line : List ℕ) (ls : List (List ℕ)) → IsMore ls → script_from false policy n (line ∷ ls) ≡ after_line (parse_line policy line) n (script_from false policy (n + 1) ls)
-unfolding script_from
+abbrev lines_of : ℕ → List (List ℕ) → ScriptLines
+lines_of n ls = lines_from takes_all false policy n ls
+
+line_more : (n : ℕ) (line : List ℕ) (ls : List (List ℕ)) → IsMore ls → lines_of n (line ∷ ls) ≡ after_line takes_all (parse_line policy line) n line (lines_of (n + 1) ls)
+unfolding lines_from
 line_more n line ls more =
-    ap (λ (r : List (List ℕ)). script_from false policy n (line ∷ r)) more.is ∙ sym (ap (λ (r : List (List ℕ)). after_line (parse_line policy line) n (script_from false policy (n + 1) r)) more.is)
+    ap (λ (r : List (List ℕ)). lines_of n (line ∷ r)) more.is ∙ sym (ap (λ (r : List (List ℕ)). after_line takes_all (parse_line policy line) n line (lines_of (n + 1) r)) more.is)
 
 -- a line that is a call comes before the calls of the lines after it
-call_first : (n count : ℕ) (line : List ℕ) (ls : List (List ℕ)) → IsMore ls → IsCall line → IsPlayed count (script_from false policy (n + 1) ls) → IsPlayed (suc count) (script_from false policy n (line ∷ ls))
+call_first : (n count : ℕ) (line : List ℕ) (ls : List (List ℕ)) → IsMore ls → IsCall line → IsPlayed count (script_of (lines_of (n + 1) ls)) → IsPlayed (suc count) (script_of (lines_of n (line ∷ ls)))
 call_first n count line ls more call rest =
-    subst (IsPlayed (suc count)) (sym (line_more n line ls more ∙ ap (λ (r : Result Line LineError). after_line r n (script_from false policy (n + 1) ls)) call.read)) (record { calls = ap suc rest.calls; whole = rest.whole })
+    subst (λ (m : ScriptLines). IsPlayed (suc count) (script_of m)) (sym (line_more n line ls more ∙ ap (λ (r : Result Line LineError). after_line takes_all r n line (lines_of (n + 1) ls)) call.read))
+    (record { calls = ap suc rest.calls; whole = rest.whole })
 
-script_read : (count number n : ℕ) → All (Fits 32) (lines_after count number) → IsPlayed count (script_from false policy n (lines_after count number ++ [] ∷ []))
-unfolding lines_after script_from
+script_read : (count number n : ℕ) → All (Fits 32) (lines_after count number) → IsPlayed count (script_of (lines_of n (lines_after count number ++ [] ∷ [])))
+unfolding lines_after lines_from
 script_read zero number n fits = record { calls = refl; whole = refl }
 script_read (suc count) number n fits =
     let rest = lines_after count (step number) in
@@ -80,7 +84,7 @@ text_short n few = omega (arith, few, text_length (gen_lines n) (gen_lines_fit n
 text_read : (lines : List (List ℕ)) → IsMore lines → read_lines 1 (at.Format Two) (head_lines ++ lines) ≡ AcceptedWorld generated_world 15 lines
 text_read lines more = ap (λ (ls : List (List ℕ)). read_lines 1 (at.Format Two) (head_lines ++ ls)) more.is ∙ head_read more.first more.rest ∙ sym (ap (AcceptedWorld generated_world 15) more.is)
 
-input_is : (n : ℕ) → n ≤ 100000 → input_of (gen_text n) ≡ of_world false generated_world 15 (lines_after n n ++ [] ∷ [])
+input_is : (n : ℕ) → n ≤ 100000 → input_of (gen_text n) ≡ of_world takes_all false generated_world 15 (lines_after n n ++ [] ∷ [])
 unfolding input_in begun_in
 input_is n few =
     let short = text_short n few in
@@ -100,5 +104,5 @@ pub record IsWholeInput (calls : ℕ) (input : Input) : Type 0 where
 pub generated_is_whole : (n : ℕ) → n ≤ 100000 → IsWholeInput n (input_of (gen_text n))
 generated_is_whole n few =
     let all = All-drop (Fits 32) 14 (gen_lines n) (gen_lines_fit n) in
-    let script = subst (λ (p : PolicyNames). IsPlayed n (script_from false p 15 (lines_after n n ++ [] ∷ []))) (sym its_names) (script_read n n 15 all) in
+    let script = subst (λ (p : PolicyNames). IsPlayed n (script_of (lines_from takes_all false p 15 (lines_after n n ++ [] ∷ [])))) (sym its_names) (script_read n n 15 all) in
     subst (IsWholeInput n) (sym (input_is n few)) (record { world = generated_world; accepted = refl; procs = four_procs; calls_are = script.calls; whole = script.whole })

@@ -1,6 +1,6 @@
 -- What an input is where it is written again with another world, after a comment.
 use Rattle.std.proofs.Common.{◌≡◌, ℕ, ◌+◌, ◌≤◌, ◌||◌, Bool, true, false, cond, List, [], ◌∷◌, ◌++◌, length, map, take, refl, sym, ◌∙◌, ap, append_assoc, Option, None, Some}
-use Rattle.std.specs.Prelude.{filter_map, nat_lt, zip, Result, Ok, Err}
+use Rattle.std.specs.Prelude.{filter_map, nat_lt, zip}
 use Rattle.std.specs.List.{cons_option, list_any}
 use Rattle.std.proofs.lemmas.List.Folds.{list_any-append}
 use Rattle.cap_bits.specs.declared.state.CapState.{CapState}
@@ -27,8 +27,6 @@ use Rattle.lab_text.specs.Policy.{PolicyNames}
 use Rattle.line_text.specs.declared.fault.LineFault.TheVariants as fault
 use Rattle.script_text.specs.declared.line.Line.{Line}
 use Rattle.script_text.specs.declared.line.Line.TheVariants as line_is
-use Rattle.script_text.specs.declared.fault.LineError.{LineError}
-use Rattle.script_text.specs.Line as script_lines
 use Rattle.world_text.specs.declared.expecting.Expecting.{Expecting}
 use Rattle.world_text.specs.declared.expecting.Expecting.TheVariants as at
 use Rattle.world_text.specs.declared.expecting.Parsed.{Parsed}
@@ -41,12 +39,12 @@ use Rattle.world_text.specs.Reading.{Reading, Accepted as AcceptedWorld, after, 
 use Rattle.world_text.specs.Values.{unless, with_form}
 use Rattle.world_text.specs.Written.{next_number, text_of_world}
 use Rattle.lab_engine.specs.declared.ending.InputEnd.{InputEnd}
-use Rattle.lab_engine.specs.declared.ending.InputEnd.TheVariants.{Whole, Refused}
-use Rattle.lab_engine.specs.declared.ending.Part.TheVariants as part
-use Rattle.lab_engine.specs.Input.{Accepted, Begun, HasWorld, NoWorld, Script, after_line, begun_by, begun_in, input_from, input_in, input_of, items_in, script, script_from}
-use Rattle.lab_engine.specs.LeastInput.{after_least, least_by, least_from, least_in, least_of, line_asks, tool_asks}
+use Rattle.lab_engine.specs.declared.ending.InputEnd.TheVariants.{Whole}
+use Rattle.lab_engine.specs.Input.{Accepted, Begun, HasWorld, NoWorld, ScriptLine, ScriptLines, begun_by, begun_in, input_from, input_in, input_of, items_in, items_of_lines, lines_from, script, script_of, takes_all}
+use Rattle.lab_engine.specs.LeastInput.{least_by, least_in, least_of, line_asks, refuses_asked, tool_asks}
 use Rattle.lab_engine.specs.Upgrading.{ReadsBack}
-use Rattle.lab_engine.proofs.UpgradeLaws.{Behind, behind, ended, has_world, no_world_whole, not_whole, nothing, some_pieces, step, with_rest}
+use Rattle.lab_engine.proofs.TakenLines.{AreTaken, IsTaken, all_taken}
+use Rattle.lab_engine.proofs.UpgradeLaws.{Behind, behind, ended, has_world, no_world_whole, nothing, some_pieces, step, with_rest}
 
 -- ---- calls that do not ask
 
@@ -90,44 +88,17 @@ line_none line_is.Blank none = refl
 line_none (line_is.One who c) none = or_none (call_asks c) false none refl
 line_none (line_is.Tool util) none = tool_none util none
 
--- ---- the script
+-- a line that is taken does not ask
+not_asked : (asks : Bool) → cond asks (Some fault.CapsAsked) None ≡ None → asks ≡ false
+not_asked true e = absurd (cc)
+not_asked false e = refl
 
--- a script of which no line is refused or asks is the same where it is read again
-record IsPlayed (policy : PolicyNames) (over : Bool) (n : ℕ) (ps : List (List ℕ)) : Type 0 where
-  within : over ≡ false
-  again : (m : ℕ) → script_from false policy m ps ≡ script (least_from over policy n ps).items Whole
-  asks_none : script_asks (least_from over policy n ps).items ≡ false
-
--- a script that begins with a line that can be read, by whether it asks
-abbrev judged : Line → ℕ → Script → Bool → Script
-judged l n more asks = cond asks (script [] (Refused n part.Script fault.CapsAsked)) (script (items_in l ++ more.items) more.ending)
-
-played : (policy : PolicyNames) (over : Bool) (n : ℕ) (p : List ℕ) (ps : List (List ℕ)) → (least_from over policy n (p ∷ ps)).ending ≡ Whole → IsPlayed policy over n (p ∷ ps)
-unfolding least_from script_from
-played policy false n [] [] e = record { within = refl; again = λ m. refl; asks_none = refl }
-played policy false n (b ∷ p) [] e = absurd (cc)
-played policy true n p [] e = absurd (not_whole (nat_lt MAX_LINE (length p)) n e)
-played policy over n p (q ∷ ps) e = by_parsed (λ h. played policy over (n + 1) q ps h) (script_lines.parse_line policy p) refl e
-  where
-    by_plays : IsPlayed policy over (n + 1) (q ∷ ps) → (l : Line) → script_lines.parse_line policy p ≡ Ok l → line_asks l ≡ false → IsPlayed policy over n (p ∷ q ∷ ps)
-    by_plays later l is asks = record {
-      within = later.within;
-      again = λ m. ap (λ (r : Result Line LineError). after_line r m (script_from false policy (m + 1) (q ∷ ps))) is
-          ∙ ap (λ (s : Script). script (items_in l ++ s.items) s.ending) (later.again (m + 1))
-          ∙ sym (ap (λ (r : Result Line LineError). script (after_least r n (least_from over policy (n + 1) (q ∷ ps))).items Whole) is ∙ ap (λ v. script (judged l n (least_from over policy (n + 1) (q ∷ ps)) v).items Whole) asks);
-      asks_none = ap (λ (r : Result Line LineError). script_asks (after_least r n (least_from over policy (n + 1) (q ∷ ps))).items) is
-          ∙ ap (λ v. script_asks (judged l n (least_from over policy (n + 1) (q ∷ ps)) v).items) asks
-          ∙ list_any-append (λ (i : ScriptItem). call_asks i.call) (items_in l) (least_from over policy (n + 1) (q ∷ ps)).items
-          ∙ or_none _ _ (line_none l asks) later.asks_none;
-    }
-
-    by_asks : ((least_from over policy (n + 1) (q ∷ ps)).ending ≡ Whole → IsPlayed policy over (n + 1) (q ∷ ps)) → (l : Line) → script_lines.parse_line policy p ≡ Ok l → (v : Bool) → line_asks l ≡ v → (judged l n (least_from over policy (n + 1) (q ∷ ps)) v).ending ≡ Whole → IsPlayed policy over n (p ∷ q ∷ ps)
-    by_asks later l is true asks e = absurd (cc)
-    by_asks later l is false asks e = by_plays (later e) l is asks
-
-    by_parsed : ((least_from over policy (n + 1) (q ∷ ps)).ending ≡ Whole → IsPlayed policy over (n + 1) (q ∷ ps)) → (r : Result Line LineError) → script_lines.parse_line policy p ≡ r → (after_least r n (least_from over policy (n + 1) (q ∷ ps))).ending ≡ Whole → IsPlayed policy over n (p ∷ q ∷ ps)
-    by_parsed later (Err why) is e = absurd (cc)
-    by_parsed later (Ok l) is e = by_asks later l is (line_asks l) refl e
+-- the calls of lines that are taken
+lines_none : (ls : List ScriptLine) → AreTaken refuses_asked ls → script_asks (items_of_lines ls) ≡ false
+lines_none [] all = refl
+lines_none (l ∷ ls) all =
+    list_any-append (λ (i : ScriptItem). call_asks i.call) (items_in l.says) (items_of_lines ls)
+    ∙ or_none _ _ (line_none l.says (not_asked (line_asks l.says) all.0)) (lines_none ls all.1)
 
 -- ---- a comment before a world
 
@@ -179,7 +150,7 @@ module _ (line : List ℕ) (comment : IsComment line) (w : WorldText) (back : Re
       ∙ ap (read_lines 2 e) (sym first.2)
       ∙ later_lines (pieces 10 (text_of_world w ++ rest)) 1 e w (next_number w) (pieces 10 rest) (with_rest _ (text_of_world w) 1 e w (next_number w) rest refl (back short))
 
-  input_read : length (written ++ rest) ≤ MAX_INPUT → input_of (written ++ rest) ≡ record { accepted = Some w; script = script_from false w.policy (next_number w + 1) (pieces 10 rest) }
+  input_read : length (written ++ rest) ≤ MAX_INPUT → input_of (written ++ rest) ≡ record { accepted = Some w; script = script_of (lines_from takes_all false w.policy (next_number w + 1) (pieces 10 rest)) }
   unfolding input_in begun_in
   input_read few =
       let out = written ++ rest in
@@ -208,15 +179,15 @@ module _ (text : List ℕ) (w : WorldText) (over : Bool) (n : ℕ) (lines : List
   behind_script : Behind (take MAX_INPUT text) lines
   behind_script = behind _ (take MAX_INPUT text) 1 (at.Format Two) w n lines refl read
 
-  module _ (whole : (least_from over w.policy n lines).ending ≡ Whole) where
-    all_played : IsPlayed w.policy over n lines
-    all_played = some_pieces behind_script.rest lines behind_script.pieces_are (λ ps. (least_from over w.policy n ps).ending ≡ Whole → IsPlayed w.policy over n ps) (λ q qs. played w.policy over n q qs) whole
+  module _ (whole : (lines_from refuses_asked over w.policy n lines).ending ≡ Whole) where
+    all_played : IsTaken refuses_asked w.policy over n lines
+    all_played = some_pieces behind_script.rest lines behind_script.pieces_are (λ ps. (lines_from refuses_asked over w.policy n ps).ending ≡ Whole → IsTaken refuses_asked w.policy over n ps) (λ q qs. all_taken refuses_asked w.policy over n q qs) whole
 
-    all_taken : take MAX_INPUT text ≡ text
-    all_taken = take_all MAX_INPUT text (ltb-false MAX_INPUT (length text) (limit ∙ all_played.within))
+    within_limit : take MAX_INPUT text ≡ text
+    within_limit = take_all MAX_INPUT text (ltb-false MAX_INPUT (length text) (limit ∙ all_played.within))
 
     abbrev played_items : List ScriptItem
-    played_items = (least_from over w.policy n lines).items
+    played_items = items_of_lines (lines_from refuses_asked over w.policy n lines).lines
 
     world_played : PlayedWhole text
     unfolding input_in least_in
@@ -226,18 +197,18 @@ module _ (text : List ℕ) (w : WorldText) (over : Bool) (n : ℕ) (lines : List
       number = n;
       head = behind_script.head;
       behind = behind_script.rest;
-      text_is = sym all_taken ∙ behind_script.text_is;
-      reads = ap (read_text Two) (sym all_taken) ∙ read ∙ ap (AcceptedWorld w n) behind_script.pieces_are;
+      text_is = sym within_limit ∙ behind_script.text_is;
+      reads = ap (read_text Two) (sym within_limit) ∙ read ∙ ap (AcceptedWorld w n) behind_script.pieces_are;
       least_is = ap least_by is ∙ ap (λ (e : InputEnd). record { accepted = Some w; script = script played_items e }) whole;
       input_is = ap input_from is
-          ∙ ap (λ v. record { accepted = Some w; script = script_from v w.policy n lines }) all_played.within
-          ∙ ap (λ (s : Script). record { accepted = Some w; script = s }) (all_played.again n);
-      asks_none = all_played.asks_none;
+          ∙ ap (λ v. record { accepted = Some w; script = script_of (lines_from takes_all v w.policy n lines) }) all_played.within
+          ∙ ap (λ (s : ScriptLines). record { accepted = Some w; script = script_of s }) (all_played.again n);
+      asks_none = lines_none _ all_played.all;
       again = λ line comment v same back short few.
           input_read line comment v back behind_script.rest short few
-          ∙ ap (λ (ps : List (List ℕ)). record { accepted = Some v; script = script_from false v.policy (next_number v + 1) ps }) (sym behind_script.pieces_are)
-          ∙ ap (λ (policy : PolicyNames). record { accepted = Some v; script = script_from false policy (next_number v + 1) lines }) same
-          ∙ ap (λ (s : Script). record { accepted = Some v; script = s }) (all_played.again (next_number v + 1));
+          ∙ ap (λ (ps : List (List ℕ)). record { accepted = Some v; script = script_of (lines_from takes_all false v.policy (next_number v + 1) ps) }) (sym behind_script.pieces_are)
+          ∙ ap (λ (policy : PolicyNames). record { accepted = Some v; script = script_of (lines_from takes_all false policy (next_number v + 1) lines) }) same
+          ∙ ap (λ (s : ScriptLines). record { accepted = Some v; script = script_of s }) (all_played.again (next_number v + 1));
     }
 
 -- an input whose script is played to its end

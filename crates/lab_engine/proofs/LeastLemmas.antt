@@ -1,5 +1,5 @@
 -- A script that is played to find the capabilities that it needs: what each step leads to.
-use Rattle.std.proofs.Common.{◌≡◌, ℕ, Bool, true, false, cond, List, [], ◌∷◌, ◌++◌, refl, sym, ◌∙◌, ap, ap₂, subst, append_assoc, Option}
+use Rattle.std.proofs.Common.{◌≡◌, ℕ, Bool, true, false, cond, List, [], ◌∷◌, ◌++◌, refl, sym, ◌∙◌, ap, ap₂, subst, append_assoc, Option, Some, None}
 use Rattle.std.specs.Prelude.{IsErrAnd, Result, Ok, Err}
 use Rattle.std.specs.Io.KnownBytes.{IsAtEnd}
 use Rattle.std.proofs.lemmas.Grind.{flat_map-append}
@@ -27,9 +27,9 @@ use Rattle.lab_engine.specs.declared.least.Needed.{Needed}
 use Rattle.lab_engine.specs.declared.reading.NextLine.{NextLine}
 use Rattle.lab_engine.specs.declared.reading.NextLine.TheVariants as next
 use Rattle.lab_engine.specs.Counts.{Counts, counts}
-use Rattle.lab_engine.specs.Input.{Script, items_in, script}
+use Rattle.lab_engine.specs.Input.{Script, items_in, judged, lines_at, script, script_line, script_of}
 use Rattle.lab_engine.specs.Least.{NeedsScript, named_by, recs_of}
-use Rattle.lab_engine.specs.LeastInput.{least_at, line_asks}
+use Rattle.lab_engine.specs.LeastInput.{least_at, line_asks, refuses_asked}
 use Rattle.lab_engine.specs.Reading.{Follows, Takes, left_of}
 use Rattle.lab_engine.proofs.ReadSoFar.{line_calls, line_read, takes_more, takes_nothing}
 use Rattle.lab_engine.proofs.SeenLemmas.{run_append}
@@ -154,9 +154,10 @@ module _ (policy : PolicyNames) (lines0 lines : LinesState) (left0 left : Option
         rest more = least_at policy lines' more
 
         -- what follows, by whether the line asks for capability sets
-        judged : (asks : Bool) → line_asks line ≡ asks → (more : List ℕ) → after begun.taken more
-            ≡ cond asks (script [] (Refused lines'.number part.Script fault_is.CapsAsked)) (script (items_in line ++ (rest more).items) (rest more).ending)
-        judged asks by more = begun.shows.least more ∙ ap (λ b. cond b (script [] (Refused lines'.number part.Script fault_is.CapsAsked)) (script (items_in line ++ (rest more).items) (rest more).ending)) by
+        judges : (asks : Bool) → line_asks line ≡ asks → (more : List ℕ) → after begun.taken more
+            ≡ script_of (judged (cond asks (Some fault_is.CapsAsked) None) lines'.number (script_line lines'.line line) (lines_at refuses_asked policy lines' more))
+        judges asks by more = ap script_of (begun.shows.says refuses_asked more)
+            ∙ ap (λ b. script_of (judged (cond b (Some fault_is.CapsAsked) None) lines'.number (script_line lines'.line line) (lines_at refuses_asked policy lines' more))) by
 
         pub line_playable : s0.top ≡ top_of policy → MayBePlayed s.top line
         line_playable top = still_playable line top (line_calls policy lines lines' left left' l read line is)
@@ -164,14 +165,14 @@ module _ (policy : PolicyNames) (lines0 lines : LinesState) (left0 left : Option
         -- it is refused
         pub line_refused : line_asks line ≡ true → (ending : InputEnd) → ending ≡ Refused lines'.number part.Script fault_is.CapsAsked → NeedsScript (Ok (record { ending = ending; caps = caps })) policy s0 s lines0 lines' left0 left'
         line_refused by ending ends_is = subst (λ (e : InputEnd). NeedsScript (Ok (record { ending = e; caps = caps })) policy s0 s lines0 lines' left0 left') (sym ends_is)
-            (ends_so begun.taken begun.takes _ (judged true by (left_of left')) (λ h. absurd (cc)))
+            (ends_so begun.taken begun.takes _ (judges true by (left_of left')) (λ h. absurd (cc)))
 
         -- its calls were played
         module _ (by : line_asks line ≡ false) (n' : ℕ) (still : (u v : ℕ) → counts n' u v ≡ counts n u v) (s' : State) (state : s' ≡ state_after_run s (items_in line)) where
           says_line : (more : List ℕ) → least_at policy lines0 ((p.taken ++ begun.taken) ++ more) ≡ script ((p.items ++ items_in line) ++ (rest more).items) (rest more).ending
           says_line more =
               says_after begun.taken more
-              ∙ ap (λ (m : Script). script (p.items ++ m.items) m.ending) (judged false by more)
+              ∙ ap (λ (m : Script). script (p.items ++ m.items) m.ending) (judges false by more)
               ∙ ap (λ (is : List ScriptItem). script is (rest more).ending) (sym (append_assoc p.items (items_in line) (rest more).items))
 
           pub line_played : (more caps' : CapSet) → more ≡ named_by (run s (items_in line)) → caps' ≡ union_of caps more → NeededSoFar policy lines0 lines' left0 left' n0 n' s0 s' caps'
@@ -197,7 +198,7 @@ module _ (policy : PolicyNames) (lines0 lines : LinesState) (left0 left : Option
       pub needed_ends : (ending : InputEnd) → l ≡ next.Ended ending → NeedsScript (Ok (record { ending = ending; caps = caps })) policy s0 s lines0 lines' left0 left'
       needed_ends ending is =
           let last = subst (λ k. Follows (Ok k) policy lines lines' left left') is read in
-          ends_so last.taken last.takes ending last.shows.least last.shows.to_the_end
+          ends_so last.taken last.takes ending (ap script_of (last.shows.says refuses_asked)) last.shows.to_the_end
 
     -- a read failed, or memory ran out
     pub needed_fails : (r : Result Needed Fault) (fault : Fault) → IsErrAnd r (λ q. q ≡ fault) → Follows (Err fault) policy lines lines' left left' → NeedsScript r policy s0 s lines0 lines' left0 left'

@@ -14,6 +14,7 @@ pub mod WorldProgress
 pub mod OpenLemmas
 pub mod ScriptSteps
 pub mod UpgradeLemmas
+pub mod TakenLines
 pub mod UpgradeLaws
 pub mod LeastLemmas
 pub mod LeastLaws

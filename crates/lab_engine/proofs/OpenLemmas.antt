@@ -15,7 +15,7 @@ use Rattle.lab_engine.specs.declared.opening.Opened.TheVariants as opened
 use Rattle.lab_engine.specs.declared.reading.ReadWorld.{ReadWorld}
 use Rattle.lab_engine.specs.declared.reading.ReadWorld.TheVariants as world
 use Rattle.lab_engine.specs.Counts.{Counts, CountsOnce, counted_by}
-use Rattle.lab_engine.specs.Input.{Begun, Input, begun_in, input_from, input_in}
+use Rattle.lab_engine.specs.Input.{Begun, Input, begun_in, input_from, input_in, lines_at}
 use Rattle.lab_engine.specs.LeastInput.{least_at, least_by, least_in}
 use Rattle.lab_engine.specs.UpgradeInput.{upgrade_in, upgrade_by, upgrade_at}
 use Rattle.lab_engine.specs.Opening.{OpensInput}
@@ -51,15 +51,15 @@ module _ (due : Format) (lines0 : LinesState) (starts : lines0 ≡ record { line
 
   -- a world was accepted, and its script is left
   input_left : (w : WorldText) (more : List ℕ) → input_from (script_left w lines more) ≡ record { accepted = Some w; script = script_at w.policy lines more }
-  unfolding script_left script_at
+  unfolding script_left lines_at
   input_left w more = refl
 
   kept_left : (w : WorldText) (more : List ℕ) → upgrade_by (script_left w lines more) ≡ record { accepted = Some w; script = upgrade_at w.policy lines more }
-  unfolding script_left upgrade_at
+  unfolding script_left lines_at
   kept_left w more = refl
 
   least_left : (w : WorldText) (more : List ℕ) → least_by (script_left w lines more) ≡ record { accepted = Some w; script = least_at w.policy lines more }
-  unfolding script_left least_at
+  unfolding script_left lines_at
   least_left w more = refl
 
   taken_within : (taken : List ℕ) → Takes lines0 lines left left' taken → length taken + may_take lines ≡ MAX_INPUT + 1

@@ -42,9 +42,7 @@ use Rattle.lab_engine.specs.declared.reading.NextLine.TheVariants as next_is
 use Rattle.lab_engine.specs.declared.reading.WorldLine.{WorldLine}
 use Rattle.lab_engine.specs.declared.reading.WorldLine.TheVariants as world_line_is
 use Rattle.lab_engine.specs.Counts.{CountsOnce, counted_by, counts, fault_of_read}
-use Rattle.lab_engine.specs.Input.{Begun, NoWorld, Script, after_line, begun_by, ends_at, input_from, last_piece, script, script_from}
-use Rattle.lab_engine.specs.LeastInput.{after_least, least_at, least_from}
-use Rattle.lab_engine.specs.UpgradeInput.{UpgradeScript, after_kept, fault_in, kept_script, upgrade_at, upgrade_from}
+use Rattle.lab_engine.specs.Input.{Begun, Judge, NoWorld, ScriptLines, after_line, begun_by, ends_at, input_from, items_of_lines, last_piece, lines_at, lines_from, taken_lines, takes_all}
 use Rattle.lab_engine.specs.Reading.{Accepts, BeginsWith, EndsScript, EndsWorld, Follows, GoesOn, ReadsLine, Takes, begun_at, left_of, script_at, script_left}
 use Rattle.lab_engine.proofs.LeftLemmas.{left_failed, left_line, left_long, left_part, left_past, read_left}
 use Rattle.lab_engine.proofs.FewCalls.{few_calls}
@@ -61,18 +59,12 @@ take_none (suc n) = refl
 
 -- ---- one step of each definition
 
--- what is left is read as the rest of a world, as the rest of a script, as that of an old script, or as that of one whose capabilities are narrowed
+-- what is left is read as the rest of a world, or as the rest of a script
 abbrev world_by : Expecting → Bool → ℕ → List (List ℕ) → Begun
 world_by e over n ps = begun_by over (read_lines n e ps)
 
-abbrev script_by : PolicyNames → Bool → ℕ → List (List ℕ) → Script
-script_by policy over n ps = script_from over policy n ps
-
-abbrev kept_by : PolicyNames → Bool → ℕ → List (List ℕ) → UpgradeScript
-kept_by policy over n ps = upgrade_from over policy n ps
-
-abbrev least_script : PolicyNames → Bool → ℕ → List (List ℕ) → Script
-least_script policy over n ps = least_from over policy n ps
+abbrev script_by : Judge → PolicyNames → Bool → ℕ → List (List ℕ) → ScriptLines
+script_by judge policy over n ps = lines_from judge over policy n ps
 
 world_last : (e : Expecting) (over : Bool) (n : ℕ) (last : List ℕ) → world_by e over n (last ∷ []) ≡ NoWorld (ends_at over n part.World fault.Syntax last)
 unfolding read_lines
@@ -84,36 +76,16 @@ unfolding read_lines
 reading_more n e line ps p qs is =
     ap (λ (r : List (List ℕ)). read_lines n e (line ∷ r)) is ∙ sym (ap (λ (r : List (List ℕ)). after (parse_line e line) n r (λ next. read_lines (n + 1) next r)) is)
 
-script_last : (policy : PolicyNames) (over : Bool) (n : ℕ) (last : List ℕ) → script_by policy over n (last ∷ []) ≡ script [] (last_piece over n last)
-unfolding script_from
-script_last policy over n last = refl
+script_last : (judge : Judge) (policy : PolicyNames) (over : Bool) (n : ℕ) (last : List ℕ) → script_by judge policy over n (last ∷ []) ≡ taken_lines [] (last_piece over n last)
+unfolding lines_from
+script_last judge policy over n last = refl
 
-script_more : (over : Bool) (policy : PolicyNames) (n : ℕ) (line : List ℕ) (ps : List (List ℕ)) (p : List ℕ) (qs : List (List ℕ)) → ps ≡ p ∷ qs
-    → script_from over policy n (line ∷ ps) ≡ after_line (script_lines.parse_line policy line) n (script_from over policy (n + 1) ps)
-unfolding script_from
-script_more over policy n line ps p qs is =
-    ap (λ (r : List (List ℕ)). script_from over policy n (line ∷ r)) is ∙ sym (ap (λ (r : List (List ℕ)). after_line (script_lines.parse_line policy line) n (script_from over policy (n + 1) r)) is)
-
-kept_last : (policy : PolicyNames) (over : Bool) (n : ℕ) (last : List ℕ) → kept_by policy over n (last ∷ []) ≡ kept_script [] (last_piece over n last)
-unfolding upgrade_from
-kept_last policy over n last = refl
-
-kept_more : (over : Bool) (policy : PolicyNames) (n : ℕ) (line : List ℕ) (ps : List (List ℕ)) (p : List ℕ) (qs : List (List ℕ)) → ps ≡ p ∷ qs
-    → upgrade_from over policy n (line ∷ ps) ≡ after_kept (fault_in (script_lines.parse_line policy line)) n line (upgrade_from over policy (n + 1) ps)
-unfolding upgrade_from
-kept_more over policy n line ps p qs is =
-    ap (λ (r : List (List ℕ)). upgrade_from over policy n (line ∷ r)) is
-    ∙ sym (ap (λ (r : List (List ℕ)). after_kept (fault_in (script_lines.parse_line policy line)) n line (upgrade_from over policy (n + 1) r)) is)
-
-least_last : (policy : PolicyNames) (over : Bool) (n : ℕ) (last : List ℕ) → least_script policy over n (last ∷ []) ≡ script [] (last_piece over n last)
-unfolding least_from
-least_last policy over n last = refl
-
-least_more : (over : Bool) (policy : PolicyNames) (n : ℕ) (line : List ℕ) (ps : List (List ℕ)) (p : List ℕ) (qs : List (List ℕ)) → ps ≡ p ∷ qs
-    → least_from over policy n (line ∷ ps) ≡ after_least (script_lines.parse_line policy line) n (least_from over policy (n + 1) ps)
-unfolding least_from
-least_more over policy n line ps p qs is =
-    ap (λ (r : List (List ℕ)). least_from over policy n (line ∷ r)) is ∙ sym (ap (λ (r : List (List ℕ)). after_least (script_lines.parse_line policy line) n (least_from over policy (n + 1) r)) is)
+script_more : (judge : Judge) (over : Bool) (policy : PolicyNames) (n : ℕ) (line : List ℕ) (ps : List (List ℕ)) (p : List ℕ) (qs : List (List ℕ)) → ps ≡ p ∷ qs
+    → lines_from judge over policy n (line ∷ ps) ≡ after_line judge (script_lines.parse_line policy line) n line (lines_from judge over policy (n + 1) ps)
+unfolding lines_from
+script_more judge over policy n line ps p qs is =
+    ap (λ (r : List (List ℕ)). lines_from judge over policy n (line ∷ r)) is
+    ∙ sym (ap (λ (r : List (List ℕ)). after_line judge (script_lines.parse_line policy line) n line (lines_from judge over policy (n + 1) r)) is)
 
 -- a line that is too long is refused
 world_long : (e : Expecting) (line : List ℕ) → MAX_LINE < length line → parse_line e line ≡ Refuses fault.Syntax
@@ -123,12 +95,6 @@ world_long e line long = ap (λ b. unless b fault.Syntax (cond (is_blank line) (
 script_long : (policy : PolicyNames) (line : List ℕ) → MAX_LINE < length line → script_lines.parse_line policy line ≡ Err error.TooLong
 unfolding script_lines.parse_line
 script_long policy line long = ap (λ b. cond b (Err error.TooLong) (cond (is_blank line) (Ok line_is.Blank) (script_lines.parse_words policy (words_of line)))) (lt-ltb MAX_LINE (length line) long)
-
--- a script ends, read in each way
-record Ends (policy : PolicyNames) (before : LinesState) (bytes : List ℕ) (ending : InputEnd) : Type 0 where
-  says : script_at policy before bytes ≡ script [] ending
-  keeps : upgrade_at policy before bytes ≡ kept_script [] ending
-  least : least_at policy before bytes ≡ script [] ending
 
 -- ---- a step of a reader, which took these bytes
 module _ (before now : LinesState) (got : List ℕ) (number : now.number ≡ before.number + 1) where
@@ -179,36 +145,18 @@ module _ (before now : LinesState) (got : List ℕ) (number : now.number ≡ bef
     }
 
     -- the script that begins with the line
-    script_line : (policy : PolicyNames) (parsed : Result Line LineError) → script_lines.parse_line policy now.line ≡ parsed → (more : List ℕ) → script_at policy before (got ++ more) ≡ after_line parsed now.number (script_at policy now more)
-    unfolding script_at
-    script_line policy parsed is more =
+    lines_begin : (judge : Judge) (policy : PolicyNames) (parsed : Result Line LineError) → script_lines.parse_line policy now.line ≡ parsed → (more : List ℕ)
+        → lines_at judge policy before (got ++ more) ≡ after_line judge parsed now.number now.line (lines_at judge policy now more)
+    unfolding lines_at
+    lines_begin judge policy parsed is more =
         let first = pieces_first 10 (take now.room (now.held ++ more)) in
-        left_line (script_by policy) before now got number gives more
-        ∙ script_more (over more) policy now.number now.line (left more) first.0 first.1 first.2
-        ∙ ap (λ (r : Result Line LineError). after_line r now.number (script_from (over more) policy (now.number + 1) (left more))) is
-
-    kept_line : (policy : PolicyNames) (parsed : Result Line LineError) → script_lines.parse_line policy now.line ≡ parsed → (more : List ℕ)
-        → upgrade_at policy before (got ++ more) ≡ after_kept (fault_in parsed) now.number now.line (upgrade_at policy now more)
-    unfolding upgrade_at
-    kept_line policy parsed is more =
-        let first = pieces_first 10 (take now.room (now.held ++ more)) in
-        left_line (kept_by policy) before now got number gives more
-        ∙ kept_more (over more) policy now.number now.line (left more) first.0 first.1 first.2
-        ∙ ap (λ (r : Result Line LineError). after_kept (fault_in r) now.number now.line (upgrade_from (over more) policy (now.number + 1) (left more))) is
-
-    least_line : (policy : PolicyNames) (parsed : Result Line LineError) → script_lines.parse_line policy now.line ≡ parsed → (more : List ℕ) → least_at policy before (got ++ more) ≡ after_least parsed now.number (least_at policy now more)
-    unfolding least_at
-    least_line policy parsed is more =
-        let first = pieces_first 10 (take now.room (now.held ++ more)) in
-        left_line (least_script policy) before now got number gives more
-        ∙ least_more (over more) policy now.number now.line (left more) first.0 first.1 first.2
-        ∙ ap (λ (r : Result Line LineError). after_least r now.number (least_from (over more) policy (now.number + 1) (left more))) is
+        left_line (script_by judge policy) before now got number gives more
+        ∙ script_more judge (over more) policy now.number now.line (left more) first.0 first.1 first.2
+        ∙ ap (λ (r : Result Line LineError). after_line judge r now.number now.line (lines_from judge (over more) policy (now.number + 1) (left more))) is
 
     pub line_begins : (policy : PolicyNames) (l : Line) → script_lines.parse_line policy now.line ≡ Ok l → MayBePlayed (top_of policy) l → BeginsWith policy before now got l
     line_begins policy l is calls = record {
-      says = λ rest. script_line policy (Ok l) is rest;
-      keeps = λ rest. kept_line policy (Ok l) is rest;
-      least = λ rest. least_line policy (Ok l) is rest;
+      says = λ judge rest. lines_begin judge policy (Ok l) is rest;
       number = omega (arith, number);
       calls = calls;
       more = gives.more;
@@ -221,9 +169,7 @@ module _ (before now : LinesState) (got : List ℕ) (number : now.number ≡ bef
 
       refused_line : (e : LineError) → script_lines.parse_line policy now.line ≡ Err e → EndsScript policy before left got (Refused now.number part.Script (fault_of e))
       refused_line e is = record {
-        says = script_line policy (Err e) is (left_of left);
-        keeps = kept_line policy (Err e) is (left_of left);
-        least = least_line policy (Err e) is (left_of left);
+        says = λ judge. lines_begin judge policy (Err e) is (left_of left);
         to_the_end = λ h. absurd (cc);
       }
 
@@ -239,14 +185,10 @@ module _ (before now : LinesState) (got : List ℕ) (number : now.number ≡ bef
   -- ---- no line
 
   -- the last piece of a script is left
-  last_left : (policy : PolicyNames) (bytes : List ℕ) (over : Bool) (last : List ℕ) → read_left (script_by policy) before bytes ≡ script_from over policy now.number (last ∷ [])
-      → read_left (kept_by policy) before bytes ≡ upgrade_from over policy now.number (last ∷ []) → read_left (least_script policy) before bytes ≡ least_from over policy now.number (last ∷ []) → (ending : InputEnd) → last_piece over now.number last ≡ ending → Ends policy before bytes ending
-  unfolding script_at upgrade_at least_at
-  last_left policy bytes over last is kept_is least_is ending ends = record {
-    says = is ∙ script_last policy over now.number last ∙ ap (script []) ends;
-    keeps = kept_is ∙ kept_last policy over now.number last ∙ ap (kept_script []) ends;
-    least = least_is ∙ least_last policy over now.number last ∙ ap (script []) ends;
-  }
+  last_left : (judge : Judge) (policy : PolicyNames) (bytes : List ℕ) (over : Bool) (last : List ℕ) → read_left (script_by judge policy) before bytes ≡ lines_from judge over policy now.number (last ∷ [])
+      → (ending : InputEnd) → last_piece over now.number last ≡ ending → lines_at judge policy before bytes ≡ taken_lines [] ending
+  unfolding lines_at
+  last_left judge policy bytes over last is ending ends = is ∙ script_last judge policy over now.number last ∙ ap (taken_lines []) ends
 
   module _ (holds : HoldsPart text before.room) (le : length text ≤ before.room) (left : Option (List ℕ)) (end : IsAtEnd left) where
     -- the source ended within the limit
@@ -254,15 +196,13 @@ module _ (before now : LinesState) (got : List ℕ) (number : now.number ≡ bef
     unfolding begun_at
     world_unended e = record { says = left_part (world_by e) before now got number holds le left end ∙ world_last e false now.number text; to_the_end = λ h. absurd (cc) }
 
-    script_ended : (policy : PolicyNames) (ending : InputEnd) → last_piece false now.number text ≡ ending → Ends policy before (got ++ left_of left) ending
-    script_ended policy = last_left policy (got ++ left_of left) false text (left_part (script_by policy) before now got number holds le left end) (left_part (kept_by policy) before now got number holds le left end)
-        (left_part (least_script policy) before now got number holds le left end)
+    script_ended : (policy : PolicyNames) (ending : InputEnd) → last_piece false now.number text ≡ ending → (judge : Judge) → lines_at judge policy before (got ++ left_of left) ≡ taken_lines [] ending
+    script_ended policy ending ends judge = last_left judge policy (got ++ left_of left) false text (left_part (script_by judge policy) before now got number holds le left end) ending ends
 
     pub script_unended : (policy : PolicyNames) → 0 < length text → EndsScript policy before left got (Refused now.number part.Script fault.Syntax)
     script_unended policy some =
         let short : length text ≤ MAX_LINE = subst (λ (t : List ℕ). length t ≤ MAX_LINE) (take_all before.room text le) holds.short in
-        let ends = script_ended policy _ (unended_piece text some short) in
-        record { says = ends.says; keeps = ends.keeps; least = ends.least; to_the_end = λ h. absurd (cc) }
+        record { says = script_ended policy _ (unended_piece text some short); to_the_end = λ h. absurd (cc) }
       where
         unended_piece : (t : List ℕ) → 0 < length t → length t ≤ MAX_LINE → last_piece false now.number t ≡ Refused now.number part.Script fault.Syntax
         unended_piece [] some short = absurd (omega (arith, some))
@@ -280,9 +220,10 @@ module _ (before now : LinesState) (got : List ℕ) (number : now.number ≡ bef
     world_ends e = world_unended (empty_part none) le left end e
 
     pub script_ends : (policy : PolicyNames) → EndsScript policy before left got Whole
-    script_ends policy =
-        let ends = script_ended (empty_part none) le left end policy Whole (ap (λ (t : List ℕ). last_piece false now.number t) none) in
-        record { says = ends.says; keeps = ends.keeps; least = ends.least; to_the_end = λ h. end }
+    script_ends policy = record {
+      says = script_ended (empty_part none) le left end policy Whole (ap (λ (t : List ℕ). last_piece false now.number t) none);
+      to_the_end = λ h. end;
+    }
 
   module _ (holds : HoldsPart text before.room) (past : before.room < length text) (left : Option (List ℕ)) where
     cut : (why : InputEnd) (last : List ℕ) → length last ≤ MAX_LINE → cond (nat_lt MAX_LINE (length last)) why TooMuch ≡ TooMuch
@@ -296,10 +237,10 @@ module _ (before now : LinesState) (got : List ℕ) (number : now.number ≡ bef
     }
 
     pub script_too_much : (policy : PolicyNames) → EndsScript policy before left got TooMuch
-    script_too_much policy =
-        let ends = last_left policy (got ++ left_of left) true (take before.room text) (left_past (script_by policy) before now got number holds past left) (left_past (kept_by policy) before now got number holds past left)
-        (left_past (least_script policy) before now got number holds past left) TooMuch (cut _ (take before.room text) holds.short) in
-        record { says = ends.says; keeps = ends.keeps; least = ends.least; to_the_end = λ h. absurd (cc) }
+    script_too_much policy = record {
+      says = λ judge. last_left judge policy (got ++ left_of left) true (take before.room text) (left_past (script_by judge policy) before now got number holds past left) TooMuch (cut _ (take before.room text) holds.short);
+      to_the_end = λ h. absurd (cc);
+    }
 
   -- a line that is too long is refused, wherever it ends
   module _ (long : HoldsLongLine text before.room) (left : Option (List ℕ)) where
@@ -315,20 +256,10 @@ module _ (before now : LinesState) (got : List ℕ) (number : now.number ≡ bef
     long_piece false (x ∷ line) long = ap (λ b. Refused now.number part.Script (cond b fault.TooLong fault.Syntax)) (lt-ltb MAX_LINE (length (x ∷ line)) long)
     long_piece true (x ∷ line) long = ap (λ b. cond b (Refused now.number part.Script fault.TooLong) TooMuch) (lt-ltb MAX_LINE (length (x ∷ line)) long)
 
-    script_by_pieces : (over : Bool) (policy : PolicyNames) (line : List ℕ) (ps : List (List ℕ)) → MAX_LINE < length line → script_from over policy now.number (line ∷ ps) ≡ script [] (Refused now.number part.Script fault.TooLong)
-    script_by_pieces over policy line [] long = script_last policy over now.number line ∙ ap (script []) (long_piece over line long)
-    script_by_pieces over policy line (p ∷ ps) long = script_more over policy now.number line (p ∷ ps) p ps refl
-        ∙ ap (λ (r : Result Line LineError). after_line r now.number (script_from over policy (now.number + 1) (p ∷ ps))) (script_long policy line long)
-
-    kept_by_pieces : (over : Bool) (policy : PolicyNames) (line : List ℕ) (ps : List (List ℕ)) → MAX_LINE < length line → upgrade_from over policy now.number (line ∷ ps) ≡ kept_script [] (Refused now.number part.Script fault.TooLong)
-    kept_by_pieces over policy line [] long = kept_last policy over now.number line ∙ ap (kept_script []) (long_piece over line long)
-    kept_by_pieces over policy line (p ∷ ps) long = kept_more over policy now.number line (p ∷ ps) p ps refl
-        ∙ ap (λ (r : Result Line LineError). after_kept (fault_in r) now.number line (upgrade_from over policy (now.number + 1) (p ∷ ps))) (script_long policy line long)
-
-    least_by_pieces : (over : Bool) (policy : PolicyNames) (line : List ℕ) (ps : List (List ℕ)) → MAX_LINE < length line → least_from over policy now.number (line ∷ ps) ≡ script [] (Refused now.number part.Script fault.TooLong)
-    least_by_pieces over policy line [] long = least_last policy over now.number line ∙ ap (script []) (long_piece over line long)
-    least_by_pieces over policy line (p ∷ ps) long = least_more over policy now.number line (p ∷ ps) p ps refl
-        ∙ ap (λ (r : Result Line LineError). after_least r now.number (least_from over policy (now.number + 1) (p ∷ ps))) (script_long policy line long)
+    script_by_pieces : (judge : Judge) (over : Bool) (policy : PolicyNames) (line : List ℕ) (ps : List (List ℕ)) → MAX_LINE < length line → lines_from judge over policy now.number (line ∷ ps) ≡ taken_lines [] (Refused now.number part.Script fault.TooLong)
+    script_by_pieces judge over policy line [] long = script_last judge policy over now.number line ∙ ap (taken_lines []) (long_piece over line long)
+    script_by_pieces judge over policy line (p ∷ ps) long = script_more judge over policy now.number line (p ∷ ps) p ps refl
+        ∙ ap (λ (r : Result Line LineError). after_line judge r now.number line (lines_from judge over policy (now.number + 1) (p ∷ ps))) (script_long policy line long)
 
     pub world_long_line : (e : Expecting) → EndsWorld e before left got (Refused now.number part.World fault.Syntax)
     unfolding begun_at
@@ -337,17 +268,11 @@ module _ (before now : LinesState) (got : List ℕ) (number : now.number ≡ bef
         record { says = first.4 ∙ world_by_pieces first.0 e first.1 first.2 first.3; to_the_end = λ h. absurd (cc) }
 
     pub script_long_line : (policy : PolicyNames) → EndsScript policy before left got (Refused now.number part.Script fault.TooLong)
-    unfolding script_at upgrade_at least_at
-    script_long_line policy =
-        let first = left_long (script_by policy) before now got number long left in
-        let old = left_long (kept_by policy) before now got number long left in
-        let least = left_long (least_script policy) before now got number long left in
-        record {
-          says = first.4 ∙ script_by_pieces first.0 policy first.1 first.2 first.3;
-          keeps = old.4 ∙ kept_by_pieces old.0 policy old.1 old.2 old.3;
-          least = least.4 ∙ least_by_pieces least.0 policy least.1 least.2 least.3;
-          to_the_end = λ h. absurd (cc);
-        }
+    unfolding lines_at
+    script_long_line policy = record {
+      says = λ judge. let first = left_long (script_by judge policy) before now got number long left in first.4 ∙ script_by_pieces judge first.0 policy first.1 first.2 first.3;
+      to_the_end = λ h. absurd (cc);
+    }
 
   -- ---- a read that failed
   module _ (holds : HoldsPart text before.room) where
@@ -356,8 +281,8 @@ module _ (before now : LinesState) (got : List ℕ) (number : now.number ≡ bef
     failed_world e = ap (λ (b : Begun). (input_from b).accepted) (left_failed (world_by e) before now got number holds ∙ world_last e (nat_lt before.room (length text)) now.number (take before.room text))
 
     pub failed_script : (policy : PolicyNames) → (script_at policy before got).items ≡ []
-    unfolding script_at
-    failed_script policy = ap (λ (m : Script). m.items) (left_failed (script_by policy) before now got number holds ∙ script_last policy (nat_lt before.room (length text)) now.number (take before.room text))
+    unfolding lines_at
+    failed_script policy = ap (λ (m : ScriptLines). items_of_lines m.lines) (left_failed (script_by takes_all policy) before now got number holds ∙ script_last takes_all policy (nat_lt before.room (length text)) now.number (take before.room text))
 
 -- ---- what a step leaves
 module _ (before now : LinesState) (left left' : Option (List ℕ)) where

@@ -10,7 +10,7 @@ use Rattle.script_text.specs.declared.line.Line.{Line}
 use Rattle.lab_engine.specs.declared.ending.InputEnd.{InputEnd}
 use Rattle.lab_engine.specs.declared.reading.NextLine.{NextLine}
 use Rattle.lab_engine.specs.declared.reading.NextLine.TheVariants as next
-use Rattle.lab_engine.specs.Input.{Script, items_in, script}
+use Rattle.lab_engine.specs.Input.{ScriptLines, items_in, items_of_lines, script, takes_all}
 use Rattle.lab_engine.specs.Reading.{BeginsWith, EndsScript, Follows, Takes, left_of, script_at}
 use Rattle.std.specs.Prelude.{Ok}
 
@@ -74,7 +74,7 @@ module _ (policy : PolicyNames) (lines0 lines : LinesState) (left0 left : Option
       pub line_says : (more : List ℕ) → script_at policy lines0 ((r.taken ++ got) ++ more) ≡ script ((r.items ++ items_in line) ++ (script_at policy lines' more).items) (script_at policy lines' more).ending
       line_says more =
           says_more more
-          ∙ ap (λ (m : Script). script (r.items ++ m.items) m.ending) (begins.says more)
+          ∙ ap (λ (m : ScriptLines). script (r.items ++ items_of_lines m.lines) m.ending) (begins.says takes_all more)
           ∙ ap (λ (is : List ScriptItem). script is (script_at policy lines' more).ending) (sym (append_assoc r.items (items_in line) (script_at policy lines' more).items))
 
       pub read_small : count + length (items_in line) ≤ 2 ^ 24
@@ -94,4 +94,4 @@ module _ (policy : PolicyNames) (lines0 lines : LinesState) (left0 left : Option
     -- the script ends
     pub read_ends : (ending : InputEnd) → EndsScript policy lines left' got ending → script_at policy lines0 ((r.taken ++ got) ++ left_of left') ≡ script r.items ending
     read_ends ending last =
-        says_more (left_of left') ∙ ap (λ (m : Script). script (r.items ++ m.items) m.ending) last.says ∙ ap (λ (is : List ScriptItem). script is ending) (append-nil r.items)
+        says_more (left_of left') ∙ ap (λ (m : ScriptLines). script (r.items ++ items_of_lines m.lines) m.ending) (last.says takes_all) ∙ ap (λ (is : List ScriptItem). script is ending) (append-nil r.items)

@@ -1,6 +1,6 @@
 -- What an input is after an upgrade.
-use Rattle.std.proofs.Common.{◌≡◌, ◌==◌, ℕ, ◌+◌, ◌≤◌, Bool, true, false, cond, List, [], ◌∷◌, ◌++◌, length, take, refl, sym, ◌∙◌, ap, subst, append_assoc, Some, None}
-use Rattle.std.specs.Prelude.{nat_lt, Result, Ok, Err}
+use Rattle.std.proofs.Common.{◌≡◌, ◌==◌, ℕ, ◌+◌, ◌≤◌, Bool, true, false, cond, List, [], ◌∷◌, ◌++◌, length, take, refl, sym, ◌∙◌, ap, subst, append_assoc, Some}
+use Rattle.std.specs.Prelude.{nat_lt}
 use Rattle.std.specs.List.{join_with_byte, onto_first}
 use Rattle.std.proofs.lemmas.Bool.{eqb-true, le-ltb, ltb-false}
 use Rattle.std.proofs.lemmas.List.{take_all}
@@ -9,11 +9,7 @@ use Rattle.fs_path.specs.Split.{pieces}
 use Rattle.fs_path.specs.declared.words.TheConstants.{MAX_LINE}
 use Rattle.fs_path.proofs.SplitLemmas.{pieces_first}
 use Rattle.kern_model.specs.declared.limits.TheConstants.{MAX_INPUT}
-use Rattle.lab_text.specs.Policy.{PolicyNames}
 use Rattle.line_text.specs.declared.fault.LineFault.TheVariants as fault
-use Rattle.script_text.specs.declared.line.Line.{Line}
-use Rattle.script_text.specs.declared.fault.LineError.{LineError}
-use Rattle.script_text.specs.Line as script_lines
 use Rattle.world_text.specs.declared.expecting.Expecting.{Expecting}
 use Rattle.world_text.specs.declared.expecting.Expecting.TheVariants as at
 use Rattle.world_text.specs.declared.expecting.Parsed.{Parsed}
@@ -27,9 +23,10 @@ use Rattle.world_text.specs.Written.{next_number, text_of_world}
 use Rattle.lab_engine.specs.declared.ending.InputEnd.{InputEnd}
 use Rattle.lab_engine.specs.declared.ending.InputEnd.TheVariants.{Whole, Refused, TooMuch}
 use Rattle.lab_engine.specs.declared.ending.Part.TheVariants as part
-use Rattle.lab_engine.specs.Input.{Accepted, Input, Begun, HasWorld, NoWorld, Script, after_line, begun_by, begun_in, input_from, input_in, input_of, items_in, old_input_of, script, script_from}
-use Rattle.lab_engine.specs.UpgradeInput.{after_kept, fault_in, sets_mixed, upgrade_by, upgrade_from, upgrade_in, upgrade_of}
+use Rattle.lab_engine.specs.Input.{Accepted, Input, Begun, HasWorld, NoWorld, ScriptLines, begun_by, begun_in, input_from, input_in, input_of, lines_from, old_input_of, script_of, takes_all}
+use Rattle.lab_engine.specs.UpgradeInput.{refuses_mixed, text_of_lines, upgrade_by, upgrade_in, upgrade_of}
 use Rattle.lab_engine.specs.Upgrading.{ReadsBack, UpgradedTo}
+use Rattle.lab_engine.proofs.TakenLines.{IsTaken, all_taken}
 
 -- ---- pieces
 
@@ -137,45 +134,6 @@ with_rest (l ∷ p ∷ qs) t n e w m rest is read =
         let same : AcceptedWorld v (n + 1) (pieces 10 rest) ≡ AcceptedWorld w m (pieces 10 rest) = cc in
         ap (λ (s : List ℕ). AcceptedWorld v (n + 1) (pieces 10 (s ++ rest))) none ∙ same
 
--- ---- the script
-
-pub not_whole : (v : Bool) (n : ℕ) → cond v (Refused n part.Script fault.TooLong) TooMuch ≡ Whole → ⊥
-not_whole true n e = cc
-not_whole false n e = cc
-
--- a script whose lines are all kept is the same where it is read again
-record IsKept (policy : PolicyNames) (over : Bool) (n : ℕ) (ps : List (List ℕ)) : Type 0 where
-  within : over ≡ false
-  text : (upgrade_from over policy n ps).text ≡ join_with_byte 10 ps
-  again : (m : ℕ) → script_from false policy m ps ≡ script (script_from over policy n ps).items Whole
-
-kept : (policy : PolicyNames) (over : Bool) (n : ℕ) (p : List ℕ) (ps : List (List ℕ)) → (upgrade_from over policy n (p ∷ ps)).ending ≡ Whole → IsKept policy over n (p ∷ ps)
-unfolding upgrade_from script_from
-kept policy false n [] [] e = record { within = refl; text = refl; again = λ m. refl }
-kept policy false n (b ∷ p) [] e = absurd (cc)
-kept policy true n p [] e = absurd (not_whole (nat_lt MAX_LINE (length p)) n e)
-kept policy over n p (q ∷ ps) e = by_parsed (λ h. kept policy over (n + 1) q ps h) (script_lines.parse_line policy p) refl e
-  where
-    by_sets : IsKept policy over (n + 1) (q ∷ ps) → (l : Line) → script_lines.parse_line policy p ≡ Ok l → sets_mixed l ≡ false → IsKept policy over n (p ∷ q ∷ ps)
-    by_sets later l is mixed = record {
-      within = later.within;
-      text = ap (λ (r : Result Line LineError). (after_kept (fault_in r) n p (upgrade_from over policy (n + 1) (q ∷ ps))).text) is
-          ∙ ap (λ v. (after_kept (cond v (Some fault.MixedCaps) None) n p (upgrade_from over policy (n + 1) (q ∷ ps))).text) mixed
-          ∙ ap (λ (t : List ℕ). p ++ 10 ∷ t) later.text;
-      again = λ m. ap (λ (r : Result Line LineError). after_line r m (script_from false policy (m + 1) (q ∷ ps))) is
-          ∙ ap (λ (s : Script). script (items_in l ++ s.items) s.ending) (later.again (m + 1))
-          ∙ sym (ap (λ (r : Result Line LineError). script (after_line r n (script_from over policy (n + 1) (q ∷ ps))).items Whole) is);
-    }
-
-    by_mixed : ((upgrade_from over policy (n + 1) (q ∷ ps)).ending ≡ Whole → IsKept policy over (n + 1) (q ∷ ps)) → (l : Line) → script_lines.parse_line policy p ≡ Ok l → (v : Bool) → sets_mixed l ≡ v
-        → (after_kept (cond v (Some fault.MixedCaps) None) n p (upgrade_from over policy (n + 1) (q ∷ ps))).ending ≡ Whole → IsKept policy over n (p ∷ q ∷ ps)
-    by_mixed later l is true mixed e = absurd (cc)
-    by_mixed later l is false mixed e = by_sets (later e) l is mixed
-
-    by_parsed : ((upgrade_from over policy (n + 1) (q ∷ ps)).ending ≡ Whole → IsKept policy over (n + 1) (q ∷ ps)) → (r : Result Line LineError) → script_lines.parse_line policy p ≡ r → (after_kept (fault_in r) n p (upgrade_from over policy (n + 1) (q ∷ ps))).ending ≡ Whole → IsKept policy over n (p ∷ q ∷ ps)
-    by_parsed later (Err why) is e = absurd (cc)
-    by_parsed later (Ok l) is e = by_mixed later l is (sets_mixed l) refl e
-
 -- ---- the input
 
 -- an input that ends before its world does is not whole
@@ -195,7 +153,7 @@ some_pieces t ps is P f = let first = pieces_first 10 t in subst P (sym (is ∙ 
 
 -- what is read again: the text of a world, and a script after it
 module _ (w : WorldText) (back : ReadsBack w) (rest : List ℕ) (short : HasShortLines w) (few : length (text_of_world w ++ rest) ≤ MAX_INPUT) where
-  read_again : input_of (text_of_world w ++ rest) ≡ record { accepted = Some w; script = script_from false w.policy (next_number w) (pieces 10 rest) }
+  read_again : input_of (text_of_world w ++ rest) ≡ record { accepted = Some w; script = script_of (lines_from takes_all false w.policy (next_number w) (pieces 10 rest)) }
   unfolding input_in begun_in
   read_again =
       let out = text_of_world w ++ rest in
@@ -216,36 +174,36 @@ module _ (text out : List ℕ) (w : WorldText) (over : Bool) (n : ℕ) (lines : 
   abbrev rest : List ℕ
   rest = behind_script.rest
 
-  module _ (whole : (upgrade_from over w.policy n lines).ending ≡ Whole) where
-    all_kept : IsKept w.policy over n lines
-    all_kept = some_pieces rest lines behind_script.pieces_are (λ ps. (upgrade_from over w.policy n ps).ending ≡ Whole → IsKept w.policy over n ps) (λ q qs. kept w.policy over n q qs) whole
+  module _ (whole : (lines_from refuses_mixed over w.policy n lines).ending ≡ Whole) where
+    all_kept : IsTaken refuses_mixed w.policy over n lines
+    all_kept = some_pieces rest lines behind_script.pieces_are (λ ps. (lines_from refuses_mixed over w.policy n ps).ending ≡ Whole → IsTaken refuses_mixed w.policy over n ps) (λ q qs. all_taken refuses_mixed w.policy over n q qs) whole
 
-    all_taken : take MAX_INPUT text ≡ text
-    all_taken = take_all MAX_INPUT text (ltb-false MAX_INPUT (length text) (limit ∙ all_kept.within))
+    within_limit : take MAX_INPUT text ≡ text
+    within_limit = take_all MAX_INPUT text (ltb-false MAX_INPUT (length text) (limit ∙ all_kept.within))
 
-    text_kept : (upgrade_from over w.policy n lines).text ≡ rest
+    text_kept : text_of_lines (lines_from refuses_mixed over w.policy n lines).lines ≡ rest
     text_kept = all_kept.text ∙ ap (join_with_byte 10) behind_script.pieces_are ∙ join_with_byte-slice_split 10 rest
 
-    old_is : old_input_of text ≡ record { accepted = Some w; script = script_from false w.policy n lines }
+    old_is : old_input_of text ≡ record { accepted = Some w; script = script_of (lines_from takes_all false w.policy n lines) }
     unfolding input_in
-    old_is = ap input_from is ∙ ap (λ v. record { accepted = Some w; script = script_from v w.policy n lines }) all_kept.within
+    old_is = ap input_from is ∙ ap (λ v. record { accepted = Some w; script = script_of (lines_from takes_all v w.policy n lines) }) all_kept.within
 
     ends_whole : (old_input_of text).script.ending ≡ Whole
-    ends_whole = ap (λ (i : Input). i.script.ending) old_is ∙ ap (λ (s : Script). s.ending) (all_kept.again n)
+    ends_whole = ap (λ (i : Input). i.script.ending) old_is ∙ ap (λ (s : ScriptLines). s.ending) (all_kept.again n)
 
-    pub world_upgraded : ReadsBack w → out ≡ text_of_world w ++ (upgrade_from over w.policy n lines).text → UpgradedTo text out
+    pub world_upgraded : ReadsBack w → out ≡ text_of_world w ++ text_of_lines (lines_from refuses_mixed over w.policy n lines).lines → UpgradedTo text out
     world_upgraded back wrote = record {
       world = w;
       number = n;
       head = behind_script.head;
       behind = rest;
-      text_is = sym all_taken ∙ behind_script.text_is;
-      reads = ap (read_text One) (sym all_taken) ∙ read ∙ ap (AcceptedWorld w n) behind_script.pieces_are;
+      text_is = sym within_limit ∙ behind_script.text_is;
+      reads = ap (read_text One) (sym within_limit) ∙ read ∙ ap (AcceptedWorld w n) behind_script.pieces_are;
       out_is = out_is;
       whole = ends_whole;
       same = λ short few. ap input_of out_is ∙ read_again w back rest short (subst (λ (t : List ℕ). length t ≤ MAX_INPUT) out_is few)
-          ∙ ap (λ (ps : List (List ℕ)). record { accepted = Some w; script = script_from false w.policy (next_number w) ps }) (sym behind_script.pieces_are)
-          ∙ ap (λ (s : Script). record { accepted = Some w; script = s }) (all_kept.again (next_number w) ∙ sym (all_kept.again n))
+          ∙ ap (λ (ps : List (List ℕ)). record { accepted = Some w; script = script_of (lines_from takes_all false w.policy (next_number w) ps) }) (sym behind_script.pieces_are)
+          ∙ ap (λ (s : ScriptLines). record { accepted = Some w; script = script_of s }) (all_kept.again (next_number w) ∙ sym (all_kept.again n))
           ∙ sym old_is;
     }
       where

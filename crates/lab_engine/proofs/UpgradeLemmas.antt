@@ -15,7 +15,8 @@ use Rattle.lab_engine.specs.declared.ending.Part.TheVariants as part
 use Rattle.lab_engine.specs.declared.reading.NextLine.{NextLine}
 use Rattle.lab_engine.specs.declared.reading.NextLine.TheVariants as next
 use Rattle.lab_engine.specs.Counts.{Counts, counted_by, counts}
-use Rattle.lab_engine.specs.UpgradeInput.{UpgradeScript, after_kept, kept_script, upgrade_at, sets_mixed}
+use Rattle.lab_engine.specs.Input.{judged, lines_at, script_line}
+use Rattle.lab_engine.specs.UpgradeInput.{UpgradeScript, kept_of, kept_script, refuses_mixed, sets_mixed, upgrade_at}
 use Rattle.lab_engine.specs.Order.{Sent, to_out}
 use Rattle.lab_engine.specs.Playing.{SendsAll, StopsBy, ends}
 use Rattle.lab_engine.specs.Reading.{Follows, Takes, left_of}
@@ -75,8 +76,10 @@ module _ (policy : PolicyNames) (lines0 lines : LinesState) (left0 left : Option
       rest more = upgrade_at policy lines' more
 
       -- what follows, by whether the line sets capability sets that are not uniform
-      judged : (mixed : Bool) → sets_mixed line ≡ mixed → (more : List ℕ) → after begun.taken more ≡ after_kept (cond mixed (Some fault_is.MixedCaps) None) lines'.number lines'.line (rest more)
-      judged mixed by more = begun.shows.keeps more ∙ ap (λ b. after_kept (cond b (Some fault_is.MixedCaps) None) lines'.number lines'.line (rest more)) by
+      judges : (mixed : Bool) → sets_mixed line ≡ mixed → (more : List ℕ) → after begun.taken more
+          ≡ kept_of (judged (cond mixed (Some fault_is.MixedCaps) None) lines'.number (script_line lines'.line line) (lines_at refuses_mixed policy lines' more))
+      judges mixed by more = ap kept_of (begun.shows.says refuses_mixed more)
+          ∙ ap (λ b. kept_of (judged (cond b (Some fault_is.MixedCaps) None) lines'.number (script_line lines'.line line) (lines_at refuses_mixed policy lines' more))) by
 
       pub line_numbered : 0 < lines'.number
       line_numbered = begun.shows.number
@@ -84,20 +87,17 @@ module _ (policy : PolicyNames) (lines0 lines : LinesState) (left0 left : Option
       -- it is refused
       pub line_mixed : sets_mixed line ≡ true → (ending : InputEnd) → ending ≡ Refused lines'.number part.Script fault_is.MixedCaps → (trail : SinkView) → UpgradesScript (Ok ending) policy lines0 lines' left0 left' (ends n0 o0 trail) (ends n' o trail)
       line_mixed by ending ends_is trail = subst (λ e. UpgradesScript (Ok e) policy lines0 lines' left0 left' (ends n0 o0 trail) (ends n' o trail)) (sym ends_is)
-          (ends_so begun.taken begun.takes same_source _ (judged true by (left_of left')) (λ h. absurd (cc)) trail)
+          (ends_so begun.taken begun.takes same_source _ (judges true by (left_of left')) (λ h. absurd (cc)) trail)
 
       -- it is kept
       module _ (by : sets_mixed line ≡ false) (piece : List ℕ) (piece_is : piece ≡ lines'.line ++ 10 ∷ []) (o' : SinkView) where
-        grouped : (text : List ℕ) → p.kept ++ (lines'.line ++ 10 ∷ text) ≡ (p.kept ++ piece) ++ text
-        grouped text =
-            ap (λ (t : List ℕ). p.kept ++ t) (sym (append_assoc lines'.line (10 ∷ []) text))
-            ∙ ap (λ (t : List ℕ). p.kept ++ (t ++ text)) (sym piece_is)
-            ∙ sym (append_assoc p.kept piece text)
+        grouped : (text : List ℕ) → p.kept ++ ((lines'.line ++ 10 ∷ []) ++ text) ≡ (p.kept ++ piece) ++ text
+        grouped text = ap (λ (t : List ℕ). p.kept ++ (t ++ text)) (sym piece_is) ∙ sym (append_assoc p.kept piece text)
 
         says_line : (more : List ℕ) → upgrade_at policy lines0 ((p.taken ++ begun.taken) ++ more) ≡ kept_script ((p.kept ++ piece) ++ (rest more).text) (rest more).ending
         says_line more =
             says_after begun.taken more
-            ∙ ap (λ (m : UpgradeScript). kept_script (p.kept ++ m.text) m.ending) (judged false by more)
+            ∙ ap (λ (m : UpgradeScript). kept_script (p.kept ++ m.text) m.ending) (judges false by more)
             ∙ ap (λ (t : List ℕ). kept_script t (rest more).ending) (grouped (rest more).text)
 
         sent : (trail : SinkView) → SendsAll (to_out p.kept) (ends n0 o0 trail) (ends n' o trail)
@@ -136,7 +136,7 @@ module _ (policy : PolicyNames) (lines0 lines : LinesState) (left0 left : Option
     pub upgrade_ends : (ending : InputEnd) → l ≡ next.Ended ending → (trail : SinkView) → UpgradesScript (Ok ending) policy lines0 lines' left0 left' (ends n0 o0 trail) (ends n' o trail)
     upgrade_ends ending is trail =
         let last = subst (λ k. Follows (Ok k) policy lines lines' left left') is read in
-        ends_so last.taken last.takes same_source ending last.shows.keeps last.shows.to_the_end trail
+        ends_so last.taken last.takes same_source ending (ap kept_of (last.shows.says refuses_mixed)) last.shows.to_the_end trail
 
   -- a read failed, or memory ran out
   pub upgrade_fails : (r : Result InputEnd Fault) (fault : Fault) → IsErrAnd r (λ q. q ≡ fault) → Follows (Err fault) policy lines lines' left left' → ((u v : ℕ) → counts n' u v ≡ counted_by fault (counts n u v))

@@ -1,5 +1,8 @@
 -- The meaning of an input: its world, its script up to the first refused line, and how it ends.
 use Rattle.std.specs.Prelude.{ℕ, ◌+◌, Bool, true, false, cond, nat_lt, List, [], ◌∷◌, ◌++◌, length, take, Option, Some, None, Result, Ok, Err}
+use Rattle.std.specs.List.{flat_map}
+use Rattle.fs_path.specs.Split.{pieces}
+use Rattle.io_ends.specs.LinesState.{LinesState}
 use Rattle.kern_model.specs.declared.calls.Call.{Call}
 use Rattle.kern_model.specs.declared.numbers.Pid.{Pid}
 use Rattle.kern_model.specs.declared.world.ScriptItem.{ScriptItem}
@@ -65,10 +68,39 @@ items_in line.Blank = []
 items_in (line.One who call) = item_of who call ∷ []
 items_in (line.Tool util) = items_of util
 
--- a script that begins with this line: the line is refused, or its calls come first
-abbrev pub after_line : Result Line LineError → ℕ → Script → Script
-after_line (Err e) n more = script [] (Refused n part.Script (fault_of e))
-after_line (Ok line) n more = script (items_in line ++ more.items) more.ending
+-- a line of a script: its bytes, and what it says
+pub record ScriptLine : Type 0 where
+  pub text : List ℕ
+  pub says : Line
+
+-- the lines of a script that are taken, and how the input ends after them
+pub record ScriptLines : Type 0 where
+  pub lines : List ScriptLine
+  pub ending : InputEnd
+
+abbrev pub script_line : List ℕ → Line → ScriptLine
+script_line text says = record { text = text; says = says }
+
+abbrev pub taken_lines : List ScriptLine → InputEnd → ScriptLines
+taken_lines lines ending = record { lines = lines; ending = ending }
+
+-- why a command refuses a line that can be read, if it does
+abbrev pub Judge : Type 0
+Judge = Line → Option LineFault
+
+-- no such line is refused
+abbrev pub takes_all : Judge
+takes_all line = None
+
+-- lines that begin with this one, where it is taken, and else end before it
+abbrev pub judged : Option LineFault → ℕ → ScriptLine → ScriptLines → ScriptLines
+judged (Some why) n line more = taken_lines [] (Refused n part.Script why)
+judged None n line more = taken_lines (line ∷ more.lines) more.ending
+
+-- the same of the bytes of a line, which is refused for what it says, or else as a judge finds
+abbrev pub after_line : Judge → Result Line LineError → ℕ → List ℕ → ScriptLines → ScriptLines
+after_line judge (Err e) n text more = taken_lines [] (Refused n part.Script (fault_of e))
+after_line judge (Ok says) n text more = judged (judge says) n (script_line text says) more
 
 -- why a last piece is refused that no line feed ends: it is too long, or it does not end
 abbrev pub fault_of_last : List ℕ → LineFault
@@ -80,11 +112,22 @@ last_piece false n [] = Whole
 last_piece false n last = Refused n part.Script (fault_of_last last)
 last_piece true n last = cut_off n part.Script fault.TooLong last
 
--- the script from line n on: its lines up to the first refused one, or to the end
-unfoldable pub script_from : Bool → PolicyNames → ℕ → List (List ℕ) → Script
-script_from over policy n [] = script [] Whole
-script_from over policy n (last ∷ []) = script [] (last_piece over n last)
-script_from over policy n (line ∷ next ∷ ls) = after_line (parse_line policy line) n (script_from over policy (n + 1) (next ∷ ls))
+-- the lines of a script from line n on, up to the first refused one, or to the end
+unfoldable pub lines_from : Judge → Bool → PolicyNames → ℕ → List (List ℕ) → ScriptLines
+lines_from judge over policy n [] = taken_lines [] Whole
+lines_from judge over policy n (last ∷ []) = taken_lines [] (last_piece over n last)
+lines_from judge over policy n (line ∷ next ∷ ls) = after_line judge (parse_line policy line) n line (lines_from judge over policy (n + 1) (next ∷ ls))
+
+-- the lines that are left at a reader, where these bytes come after those that it holds
+unfoldable pub lines_at : Judge → PolicyNames → LinesState → List ℕ → ScriptLines
+lines_at judge policy s more = lines_from judge (nat_lt s.room (length (s.held ++ more))) policy (s.number + 1) (pieces 10 (take s.room (s.held ++ more)))
+
+-- the calls of lines
+abbrev pub items_of_lines : List ScriptLine → List ScriptItem
+items_of_lines lines = flat_map (λ (l : ScriptLine). items_in l.says) lines
+
+abbrev pub script_of : ScriptLines → Script
+script_of m = script (items_of_lines m.lines) m.ending
 
 -- ---- the world
 
@@ -105,13 +148,16 @@ begun_by over (world.Ended n last) = NoWorld (ends_at over n part.World fault.Sy
 unfoldable pub begun_in : Format → List ℕ → Begun
 begun_in due text = begun_by (nat_lt MAX_INPUT (length text)) (read_text due (take MAX_INPUT text))
 
-abbrev pub of_world : Bool → WorldText → ℕ → List (List ℕ) → Input
-of_world over w n lines = record { accepted = Some w; script = script_from over w.policy n lines }
+abbrev pub of_world : Judge → Bool → WorldText → ℕ → List (List ℕ) → Input
+of_world judge over w n lines = record { accepted = Some w; script = script_of (lines_from judge over w.policy n lines) }
 
--- an input, by what it is at the end of its world
+-- an input whose lines are judged, by what it is at the end of its world
+abbrev pub input_by : Judge → Begun → Input
+input_by judge (HasWorld w over n lines) = of_world judge over w n lines
+input_by judge (NoWorld ending) = no_world ending
+
 abbrev pub input_from : Begun → Input
-input_from (HasWorld w over n lines) = of_world over w n lines
-input_from (NoWorld ending) = no_world ending
+input_from b = input_by takes_all b
 
 -- the input that bytes are where a format is due
 unfoldable pub input_in : Format → List ℕ → Input

@@ -1,5 +1,5 @@
 -- What is left of an input at a reader of its lines, and what each line says of it.
-use Rattle.std.specs.Prelude.{◌≡◌, ℕ, ◌+◌, ◌<◌, true, List, [], ◌++◌, length, take, nat_lt, Option, Some, None, Result, Ok, MatchResult}
+use Rattle.std.specs.Prelude.{◌≡◌, ℕ, ◌+◌, ◌<◌, true, List, [], ◌++◌, length, take, nat_lt, Option, Some, None, Result, MatchResult}
 use Rattle.std.specs.Io.KnownBytes.{Consumes, IsAtEnd}
 use Rattle.fs_path.specs.Split.{pieces}
 use Rattle.io_ends.specs.LinesState.{LinesState, may_take}
@@ -21,9 +21,7 @@ use Rattle.lab_engine.specs.declared.reading.WorldLine.{WorldLine}
 use Rattle.lab_engine.specs.declared.reading.WorldLine.TheVariants as world_line
 use Rattle.lab_engine.specs.declared.reading.NextLine.{NextLine}
 use Rattle.lab_engine.specs.declared.reading.NextLine.TheVariants as next
-use Rattle.lab_engine.specs.Input.{Begun, HasWorld, NoWorld, Script, begun_by, input_from, items_in, script, script_from}
-use Rattle.lab_engine.specs.LeastInput.{after_least, least_at}
-use Rattle.lab_engine.specs.UpgradeInput.{after_kept, fault_in, kept_script, upgrade_at}
+use Rattle.lab_engine.specs.Input.{Begun, HasWorld, Judge, NoWorld, Script, begun_by, input_from, items_in, judged, lines_at, script_line, script_of, taken_lines, takes_all}
 
 -- ---- what is left at a reader, where these bytes come after those that it holds
 
@@ -36,8 +34,8 @@ unfoldable pub script_left : WorldText → LinesState → List ℕ → Begun
 script_left w s more = HasWorld w (nat_lt s.room (length (s.held ++ more))) (s.number + 1) (pieces 10 (take s.room (s.held ++ more)))
 
 -- the script
-unfoldable pub script_at : PolicyNames → LinesState → List ℕ → Script
-script_at policy s more = script_from (nat_lt s.room (length (s.held ++ more))) policy (s.number + 1) (pieces 10 (take s.room (s.held ++ more)))
+abbrev pub script_at : PolicyNames → LinesState → List ℕ → Script
+script_at policy s more = script_of (lines_at takes_all policy s more)
 
 -- the bytes that a source has left, where it reports them
 abbrev pub left_of : Option (List ℕ) → List ℕ
@@ -97,12 +95,9 @@ pub record ReadsWorld (due : Format) (result : Result ReadWorld Fault) (before n
 
 -- ---- the script
 
--- a script begins with a line, whose calls may be played, and goes on with what is left; the line has more bytes than calls;
--- an upgrade refuses it or keeps it, and `least` refuses it or plays it
+-- a script begins with a line, whose calls may be played, and goes on with what is left, for each judge; the line has more bytes than calls
 pub record BeginsWith (policy : PolicyNames) (before now : LinesState) (taken : List ℕ) (line : Line) : Type 0 where
-  pub says : (more : List ℕ) → script_at policy before (taken ++ more) ≡ script (items_in line ++ (script_at policy now more).items) (script_at policy now more).ending
-  pub keeps : (more : List ℕ) → upgrade_at policy before (taken ++ more) ≡ after_kept (fault_in (Ok line)) now.number now.line (upgrade_at policy now more)
-  pub least : (more : List ℕ) → least_at policy before (taken ++ more) ≡ after_least (Ok line) now.number (least_at policy now more)
+  pub says : (judge : Judge) (more : List ℕ) → lines_at judge policy before (taken ++ more) ≡ judged (judge line) now.number (script_line now.line line) (lines_at judge policy now more)
   pub number : 0 < now.number
   pub calls : MayBePlayed (top_of policy) line
   pub more : now.more ≡ true
@@ -110,9 +105,7 @@ pub record BeginsWith (policy : PolicyNames) (before now : LinesState) (taken : 
 
 -- a script ends without a further call
 pub record EndsScript (policy : PolicyNames) (before : LinesState) (left : Option (List ℕ)) (taken : List ℕ) (ending : InputEnd) : Type 0 where
-  pub says : script_at policy before (taken ++ left_of left) ≡ script [] ending
-  pub keeps : upgrade_at policy before (taken ++ left_of left) ≡ kept_script [] ending
-  pub least : least_at policy before (taken ++ left_of left) ≡ script [] ending
+  pub says : (judge : Judge) → lines_at judge policy before (taken ++ left_of left) ≡ taken_lines [] ending
   pub to_the_end : ending ≡ Whole → IsAtEnd left
 
 -- what is next in a script

@@ -19,7 +19,7 @@ use Rattle.world_text.specs.declared.format.Format.TheVariants.{Two}
 use Rattle.world_text.specs.declared.world.WorldText.{WorldText}
 use Rattle.world_text.proofs.Accepted.{accepted_world, accepted_top, accepted_policy}
 use Rattle.world_text.specs.Reading.{Reading, Accepted, Refused as Stopped, Ended, read_text}
-use Rattle.lab_engine.specs.Input.{Accepted as AcceptedWorld, Script, items_in, after_line, script_from, begun_by, begun_in, input_from, input_in, input_of}
+use Rattle.lab_engine.specs.Input.{Accepted as AcceptedWorld, Script, ScriptLines, after_line, begun_by, begun_in, input_from, input_in, input_of, items_in, items_of_lines, lines_from, script_of, takes_all}
 
 -- ---- scripts
 
@@ -35,12 +35,13 @@ line_played top (line.One who c) fit = and_from _ _ (and_from _ _ (and_from _ _ 
 line_played top (line.Tool util) fit = items_played util top fit.0 fit.1
 
 module _ (policy : PolicyNames) where
-  after_played : (text : List ℕ) (parsed : Result Line LineError) → parse_line policy text ≡ parsed → (n : ℕ) (more : Script) → is_script (top_of policy) more.items ≡ true → is_script (top_of policy) (after_line parsed n more).items ≡ true
+  after_played : (text : List ℕ) (parsed : Result Line LineError) → parse_line policy text ≡ parsed → (n : ℕ) (more : ScriptLines) → is_script (top_of policy) (items_of_lines more.lines) ≡ true
+      → is_script (top_of policy) (items_of_lines (after_line takes_all parsed n text more).lines) ≡ true
   after_played text (Err e) is n more rest = refl
-  after_played text (Ok l) is n more rest = both_scripts (top_of policy) (items_in l) more.items (line_played (top_of policy) l (parsed_played policy text l is)) rest
+  after_played text (Ok l) is n more rest = both_scripts (top_of policy) (items_in l) (items_of_lines more.lines) (line_played (top_of policy) l (parsed_played policy text l is)) rest
 
-  script_played : (over : Bool) (n : ℕ) (ls : List (List ℕ)) → is_script (top_of policy) (script_from over policy n ls).items ≡ true
-  unfolding script_from
+  script_played : (over : Bool) (n : ℕ) (ls : List (List ℕ)) → is_script (top_of policy) (items_of_lines (lines_from takes_all over policy n ls).lines) ≡ true
+  unfolding lines_from
   script_played over n [] = refl
   script_played over n (last ∷ []) = refl
   script_played over n (text ∷ next ∷ ls) = after_played text (parse_line policy text) refl n _ (script_played over (n + 1) (next ∷ ls))
@@ -60,7 +61,7 @@ same_some w a e = cc
 module _ (over : Bool) (due : Format) (a : WorldText) where
   by_reading : (text : List ℕ) (r : Reading) → read_text due text ≡ r → (input_from (begun_by over r)).accepted ≡ Some a → IsPlayable a (input_from (begun_by over r)).script
   by_reading text (Accepted w n ls) is e =
-      let s = script_from over w.policy n ls in
+      let s = script_of (lines_from takes_all over w.policy n ls) in
       subst (λ (v : WorldText). IsPlayable v s) (same_some w a e) (record {
         world = accepted_world due text w n ls is;
         top = accepted_top due text w n ls is;
