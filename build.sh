@@ -4,6 +4,13 @@ kit=rattle-kit-13f
 build=
 room=
 
+# Puts a file that can't be read, or written, at each standard descriptor that is closed, so that no other file takes its place.
+fill_descriptors() {
+    (: 3<&0) 2>/dev/null || exec 0>/dev/null
+    (: 3>&1) 2>/dev/null || exec 1</dev/null
+    (: 3>&2) || exec 2>/dev/null # its own message goes nowhere
+}
+
 # Removes the temporary files at a signal, stops the build, and ends by the signal.
 stop() {
     if [ -n "$build" ]; then

@@ -3,6 +3,7 @@
 
 mod checking;
 mod command;
+mod descriptors;
 mod drilling;
 mod generating;
 mod least;
@@ -19,6 +20,7 @@ mod upgrading;
 mod viewing;
 
 pub use command::{Argument, Command};
+use descriptors::{fill_closed, standard_file};
 use io_ends::{FileSink, FileSource};
 pub use running::run;
 pub use status::Status;
@@ -111,6 +113,17 @@ fn announce_input(rt: &HostRuntime, words: &[String]) {
     }
 }
 
+// FILE of `play` or `sched` and the end whose file it is, where it is one.
+fn file_of_end<'a>(rt: &HostRuntime, words: &'a [String]) -> Option<(&'a str, &'static str)> {
+    match words {
+        [word, name] if matches!(word.as_str(), "play" | "sched") => {
+            let end = standard_file(rt, name.as_str())?;
+            Some((name.as_str(), end))
+        }
+        _ => None,
+    }
+}
+
 // Runs the command that the words name, and prints what its output does not show.
 fn run_words(rt: &HostRuntime, words: &[String]) -> io::Result<Status> {
     let name = trail_name(rt.alloc(), words)?;
@@ -132,12 +145,18 @@ fn run_words(rt: &HostRuntime, words: &[String]) -> io::Result<Status> {
 
 fn start(rt: &HostRuntime) -> io::Result<Status> {
     let words = words_of(rt)?;
-    let Some(text) = text_asked(rt.alloc(), &words)? else {
-        return run_words(rt, &words);
-    };
-    let status = print_text(rt, &text);
-    complain(rt, status);
-    Ok(status)
+    if let Some(text) = text_asked(rt.alloc(), &words)? {
+        let status = print_text(rt, &text);
+        complain(rt, status);
+        return Ok(status);
+    }
+    if let Some((name, end)) = file_of_end(rt, &words) {
+        let _ = eprintln!(rt;
+            "labsys: {name} is the file of {end}, and the trail would overwrite it"
+        );
+        return Ok(Status::Usage);
+    }
+    run_words(rt, &words)
 }
 
 // The status where the arguments cannot be read. One that is not UTF-8 is no command.
@@ -160,6 +179,7 @@ fn refuse_words(rt: &HostRuntime, error: &io::Error) -> Status {
 }
 
 fn main(rt: HostRuntime) -> ExitCode {
+    fill_closed(&rt);
     let status = start(&rt).unwrap_or_else(|e| refuse_words(&rt, &e));
     ExitCode::from(u8::from(status))
 }
