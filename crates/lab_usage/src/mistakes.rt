@@ -18,7 +18,7 @@ struct CommandHelp {
 
 const NOT_EMPTY: &str = "is a word that is not empty and does not begin with -";
 
-const LINES: &str = "is a number from 1 to 100000";
+const LINES: &str = "is a number from 1 to 100000, of at most 6 digits";
 
 static COMMANDS: [CommandHelp; 10] = [
     CommandHelp {
@@ -99,19 +99,37 @@ fn asks_for_help(word: &str) -> bool {
 }
 
 impl CommandHelp {
+    // Its whole line, and what it does.
+    fn help(&self, alloc: Global) -> Result<String, AllocError> {
+        format!(in alloc; "{}\n{}", self.usage, self.about)
+    }
+
     // What is wrong with the words after that of the command.
     fn mistake(&self, alloc: Global, words: &[String]) -> Result<String, AllocError> {
         let usage = self.usage;
         match (words, self.argument) {
-            ([word], _) if asks_for_help(word.as_str()) => {
-                format!(in alloc; "{usage}\n{}", self.about)
-            }
+            ([word], _) if asks_for_help(word.as_str()) => self.help(alloc),
             ([], Some(argument)) => format!(in alloc; "{} needs {argument}: {usage}", self.word),
             ([_], Some(argument)) => {
                 let name = argument.split(',').next().unwrap_or(argument);
                 format!(in alloc; "{name} {}", self.form)
             }
-            (_, _) => format!(in alloc; "{} has a word too many: {usage}", self.word),
+            (_, _) => self.surplus(alloc, words),
+        }
+    }
+
+    // What is wrong where there are too many words.
+    fn surplus(&self, alloc: Global, words: &[String]) -> Result<String, AllocError> {
+        let usage = self.usage;
+        if let Some(option) = words.iter().find(|word| word.as_str().starts_with('-')) {
+            return format!(in alloc; "labsys has no option {:?}: {usage}", option.as_str());
+        }
+        match words
+            .len()
+            .saturating_sub(usize::from(self.argument.is_some()))
+        {
+            1 => format!(in alloc; "{} has a word too many: {usage}", self.word),
+            count => format!(in alloc; "{} has {count} words too many: {usage}", self.word),
         }
     }
 }
@@ -121,14 +139,27 @@ fn help_of(word: &str) -> Option<&'static CommandHelp> {
     COMMANDS.iter().find(|command| command.word == word)
 }
 
+// What is wrong with words of which the first is no command.
+fn no_command(alloc: Global, word: &str, more: &[String]) -> Result<String, AllocError> {
+    let is_alone = matches!(word, "--help" | "--version");
+    match more {
+        [named] if asks_for_help(word) => match help_of(named.as_str()) {
+            Some(command) => command.help(alloc),
+            None => format!(in alloc; "{:?} is no command; try labsys --help", named.as_str()),
+        },
+        [_, ..] if is_alone => format!(in alloc; "{word} is given alone"),
+        _ => format!(in alloc; "{word:?} is no command; try labsys --help"),
+    }
+}
+
 /// What is wrong with words that name no command, in a line without its end. Where the word of a command and `--help` or `-h` are
-/// given, it is the help of that command.
+/// given, in any order, it is the help of that command.
 pub fn mistake(alloc: Global, words: &[String]) -> Result<String, AllocError> {
     let [word, more @ ..] = words else {
         return String::from_str(alloc, "a command is missing; try labsys --help");
     };
     match help_of(word.as_str()) {
         Some(command) => command.mistake(alloc, more),
-        None => format!(in alloc; "{:?} is no command; try labsys --help", word.as_str()),
+        None => no_command(alloc, word.as_str(), more),
     }
 }
