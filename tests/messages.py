@@ -14,6 +14,7 @@ import tempfile
 
 WORLD = (pathlib.Path(__file__).resolve().parent.parent / "examples" / "read_by_capability.txt").read_bytes()
 USAGE = "labsys: usage\nUsage: labsys <COMMAND> [ARGUMENT]\n"
+NUMBER = "N is a number from 1 to 100000, of at most 6 digits"
 LABEL_OR_FILE = "is a word that is not empty and does not begin with -"
 
 # words that name no command, and what is wrong with them
@@ -25,6 +26,14 @@ WRONG = [
     (["play"], "play needs FILE, where the trail goes: labsys play FILE < WORLD"),
     (["play", ""], f"FILE {LABEL_OR_FILE}"),
     (["play", "a", "b"], "play has a word too many: labsys play FILE < WORLD"),
+    (["play", "--", "x"], 'labsys has no option "--": labsys play FILE < WORLD'),
+    (["check", "--all"], 'labsys has no option "--all": labsys check < WORLD'),
+    (["view", "a", "b", "c"], "view has 2 words too many: labsys view LABEL < WORLD"),
+    (["--help", "play"], "labsys play FILE < WORLD\nplays WORLD; the replies go to standard output, and the trail to FILE"),
+    (["-h", "gen"], "labsys gen N\nwrites a generated world with a script of N calls"),
+    (["--help", "plays"], '"plays" is no command; try labsys --help'),
+    (["--help", "play", "x"], "--help is given alone"),
+    (["--version", "play"], "--version is given alone"),
     (["play", "--help"], "labsys play FILE < WORLD\nplays WORLD; the replies go to standard output, and the trail to FILE"),
     (["sched"], "sched needs FILE, where the trail goes: labsys sched FILE < PROGRAMS"),
     (["sched", "-x"], f"FILE {LABEL_OR_FILE}"),
@@ -34,9 +43,10 @@ WRONG = [
     (["check", "trail.out"], "check has a word too many: labsys check < WORLD"),
     (["check", "--help"], "labsys check < WORLD\ncounts the objects, processes and calls of WORLD"),
     (["gen"], "gen needs N, the number of calls: labsys gen N"),
-    (["gen", "0"], "N is a number from 1 to 100000"),
+    (["gen", "0"], NUMBER),
+    (["gen", "0000001"], NUMBER),
     (["gen", "-h"], "labsys gen N\nwrites a generated world with a script of N calls"),
-    (["drill", "100001"], "N is a number from 1 to 100000"),
+    (["drill", "100001"], NUMBER),
     (["upgrade", "x"], "upgrade has a word too many: labsys upgrade < OLD"),
     (["least", "x"], "least has a word too many: labsys least < WORLD"),
     (["least", "--help"], "labsys least < WORLD\nplays WORLD, and writes it without the capabilities that its script never needed"),
@@ -55,6 +65,12 @@ FAULTS = [
     ("play trail < .", 3, "labsys: read fault\nlabsys: standard input: Is a directory (os error 21)\n"),
     ("play trail < world > /dev/full", 4, "labsys: write fault\nlabsys: standard output: No space left on device (os error 28)\n"),
     ("gen 1 > /dev/full", 4, "labsys: write fault\nlabsys: standard output: No space left on device (os error 28)\n"),
+    ("play trail <&-", 3, "labsys: read fault\nlabsys: standard input: Bad file descriptor (os error 9)\n"),
+    ("play trail < world >&-", 4, "labsys: write fault\nlabsys: standard output: Bad file descriptor (os error 9)\n"),
+    ("play world < world", 1, "labsys: world is the file of standard input, and the trail would overwrite it\n"),
+    ("sched ./world < world", 1, "labsys: ./world is the file of standard input, and the trail would overwrite it\n"),
+    ("play out < world > out", 1, "labsys: out is the file of standard output, and the trail would overwrite it\n"),
+    ("play /dev/null < world > /dev/null", 0, ""),
     ("play trail < world", 0, ""),
     ("check < world", 0, ""),
     ("gen 1", 0, ""),
