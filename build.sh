@@ -87,7 +87,7 @@ show_progress() {
 # Builds the program, and plays an example with it. The mark gets the time of the begin, so what changes during the build is newer.
 build() {
     report "building the program, which proves each crate first"
-    report "where nothing is proved yet, this takes about a quarter of an hour on four processors; stopped, it goes on at the next use"
+    report "where nothing is proved yet, this takes about an hour on four processors; stopped, it goes on at the next use"
     report "it takes rt of $kit, from \$RATTLE_KIT/bin or PATH, and has found $rt of ${found%% *}"
     [ "$folder" = "$top" ] || report "the checkout can't be written, so the program is built in $folder"
     room=$(mktemp -d) || exit 70

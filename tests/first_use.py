@@ -232,7 +232,7 @@ class FirstUse(unittest.TestCase):
         self.assertEqual(done.returncode, 0)
         self.assertIn(b"done 1\n", done.stdout)
         messages = done.stderr.decode()
-        for part in ("building", "a quarter of an hour", "RATTLE_KIT", f"{self.room.room}/bin/rt"):
+        for part in ("building", "about an hour", "RATTLE_KIT", f"{self.room.room}/bin/rt"):
             self.assertIn(part, messages)
         self.assertNotIn("\r", messages)
         self.assertEqual((self.room.left(), self.room.proved()), ([], list(CRATES)))
