@@ -1,10 +1,22 @@
-"""How answers are written: JSON, tables of text, and progress on standard error."""
+"""How answers are written: exit statuses, JSON, tables of text, and progress on standard error."""
+import enum
 import json
 import sys
 from typing import Any, Iterable, List, Sequence
 
 PLAYED = "Every answer was played by labsys."
 NOT_ABSENT = "What was not found is not shown to be absent."
+
+
+class Status(enum.IntEnum):
+    """The exit statuses. NO is also that of a question which writes what was asked for, and finds nothing: DONE names it there."""
+    NO = 0
+    DONE = 0
+    WRONG_WORDS = 1
+    REFUSED = 2
+    YES = 3
+    STOPPED = 4
+    NO_PROGRAM = 70
 
 
 class WrongWords(Exception):

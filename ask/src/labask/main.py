@@ -10,15 +10,11 @@ import sys
 from dataclasses import dataclass
 from typing import NoReturn, Optional, Sequence
 
-from labask.answers import WrongWords
+from labask.answers import Status, WrongWords
 from labask.command_words import named
 from labask.playing import Player, PlayingFault, Refused, find_program
 
 VERSION = "1.0.0"  # that of docs/version.txt, which is not installed
-DONE = 0
-USAGE = 1
-REFUSED = 2
-NO_PROGRAM = 70
 
 
 @dataclass(frozen=True)
@@ -50,7 +46,7 @@ class QuestionParser(argparse.ArgumentParser):
     def error(self, message: str) -> NoReturn:
         """Ends with the status of a wrong command line."""
         self.print_usage(sys.stderr)
-        self.exit(USAGE, f"{self.prog}: {message}\n")
+        self.exit(Status.WRONG_WORDS, f"{self.prog}: {message}\n")
 
     def _print_message(self, message, file=None):
         """As that of the base class, which passes over faults of writing; help that can't be written is none."""
@@ -129,7 +125,7 @@ def answered(words: Optional[Sequence[str]]) -> int:
             return arguments.answer(arguments, player)
         except Refused as refused:
             say_refusal(arguments, refused, player)
-            return REFUSED
+            return Status.REFUSED
     finally:
         sys.stdout.flush()
 
@@ -141,18 +137,18 @@ def main(words: Optional[Sequence[str]] = None) -> int:
         return answered(words)
     except PlayingFault as fault:
         print(f"labask: {fault}", file=sys.stderr)
-        return NO_PROGRAM
+        return Status.NO_PROGRAM
     except WrongWords as fault:
         print(f"labask: {fault}", file=sys.stderr)
-        return USAGE
+        return Status.WRONG_WORDS
     except BrokenPipeError:
         discard_output()
-        return DONE
+        return Status.DONE
     except OSError as fault:
         print(f"labask: {fault.filename or 'standard output'}: {fault.strerror}", file=sys.stderr)
         if not fault.filename:
             discard_output()
-        return USAGE
+        return Status.WRONG_WORDS
 
 
 if __name__ == "__main__":
