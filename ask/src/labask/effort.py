@@ -1,0 +1,80 @@
+"""How much work a question may be: how many plays run side by side, how long it may take, and how far it is.
+
+Ctrl-C ends the work as the end of its time does, so that what is known by then is still answered; a second one ends it at once.
+"""
+import argparse
+import os
+import signal
+import sys
+import time
+from dataclasses import dataclass, field
+from typing import Any, Optional
+
+from labask.command_words import LARGEST, number
+
+SHOWN_SECONDS = 0.1  # between two lines of progress
+
+
+@dataclass
+class Effort:
+    """The effort of a question; `until` is when its time is over, by the monotonic clock, or None where it has no end."""
+    jobs: int = 1
+    until: Optional[float] = None
+    quiet: bool = True
+    interrupted: bool = False
+    shown_at: Optional[float] = field(default=None, repr=False)
+
+    def over(self) -> bool:
+        """Whether the work is to stop: its time is over, or Ctrl-C came."""
+        return self.interrupted or (self.until is not None and time.monotonic() >= self.until)
+
+    def progress(self, text: str) -> None:
+        """Shows how far the work is, in a line of standard error that the next one takes the place of, where that is a terminal."""
+        now = time.monotonic()
+        if self.quiet or (self.shown_at is not None and now < self.shown_at + SHOWN_SECONDS):
+            return
+        self.shown_at = now
+        print(f"\r\x1b[Klabask: {text}", end="", file=sys.stderr, flush=True)
+
+    def clear(self) -> None:
+        """Takes the line of progress away."""
+        if self.shown_at is not None:
+            print("\r\x1b[K", end="", file=sys.stderr, flush=True)
+            self.shown_at = None
+
+    def interrupt(self, *_: Any) -> None:
+        """Has the work stop, as a handler of SIGINT; the next one ends the program."""
+        self.interrupted = True
+        signal.signal(signal.SIGINT, signal.default_int_handler)
+
+
+def processors() -> int:
+    """How many processors the program may use."""
+    return len(os.sched_getaffinity(0)) if hasattr(os, "sched_getaffinity") else os.cpu_count() or 1
+
+
+def jobs(text: str) -> int:
+    """A number of jobs, for `add_argument`."""
+    count = number(text, LARGEST)
+    if count == 0:
+        raise argparse.ArgumentTypeError("at least 1 play runs at a time")
+    return count
+
+
+def add_effort_arguments(parser: argparse.ArgumentParser) -> None:
+    """Adds the options that say how much work a question may be."""
+    parser.add_argument("--jobs", metavar="N", type=jobs, help="how many plays run side by side; as many as there are processors by "
+                        "default")
+    parser.add_argument("--time", metavar="SECONDS", type=number, help="stop after so many seconds, and answer what is known by then")
+    parser.add_argument("--quiet", action="store_true", help="show no progress on a terminal")
+
+
+def effort_of(arguments: argparse.Namespace) -> Effort:
+    """The effort that a command line allows. From here on Ctrl-C ends the work, and not the program."""
+    until = None if arguments.time is None else time.monotonic() + arguments.time
+    effort = Effort(arguments.jobs or processors(), until, arguments.quiet or not sys.stderr.isatty())
+    try:
+        signal.signal(signal.SIGINT, effort.interrupt)
+    except ValueError:
+        pass  # not in the main thread, which alone gets signals
+    return effort
