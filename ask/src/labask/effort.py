@@ -6,27 +6,66 @@ import argparse
 import os
 import signal
 import sys
+import threading
 import time
+from collections import deque
+from concurrent.futures import Future, ThreadPoolExecutor
 from dataclasses import dataclass, field
-from typing import Any, Optional
+from typing import Any, Callable, Deque, Iterable, Iterator, Optional, TypeVar
 
-from labask.command_words import LARGEST, number
+from labask.command_words import number
 
+MOST_JOBS = 1_024
 SHOWN_SECONDS = 0.1  # between two lines of progress
+Item = TypeVar("Item")
+Result = TypeVar("Result")
 
 
 @dataclass
 class Effort:
-    """The effort of a question; `until` is when its time is over, by the monotonic clock, or None where it has no end."""
+    """The effort of a question; `until` is when its time is over, by the monotonic clock, or None where it has no end.
+    `stopped` says whether some work was left out since the effort was over.
+    """
     jobs: int = 1
     until: Optional[float] = None
     quiet: bool = True
     interrupted: bool = False
+    stopped: bool = False
     shown_at: Optional[float] = field(default=None, repr=False)
 
     def over(self) -> bool:
         """Whether the work is to stop: its time is over, or Ctrl-C came."""
         return self.interrupted or (self.until is not None and time.monotonic() >= self.until)
+
+    def stops(self) -> bool:
+        """As `over`, where work is left that is not done then."""
+        self.stopped = self.stopped or self.over()
+        return self.stopped
+
+    def results(self, function: Callable[[Item], Result], items: Iterable[Item]) -> Iterator[Result]:
+        """What a function gives for each item, in their order; as many are at work side by side as there are jobs.
+
+        The function waits for plays, so threads suffice. Items are taken only as they are needed, and none where the effort is over.
+        """
+        pool = ThreadPoolExecutor(self.jobs) if self.jobs > 1 else None
+        waiting: "Deque[Future[Result]]" = deque()
+        try:
+            for item in items:
+                if self.stops():
+                    break
+                if pool is None:
+                    yield function(item)
+                    continue
+                waiting.append(pool.submit(function, item))
+                if len(waiting) > self.jobs:
+                    yield waiting.popleft().result()
+            while waiting:
+                yield waiting.popleft().result()
+        finally:
+            for future in waiting:
+                future.cancel()
+            if pool is not None:
+                pool.shutdown(wait=False)
 
     def progress(self, text: str) -> None:
         """Shows how far the work is, in a line of standard error that the next one takes the place of, where that is a terminal."""
@@ -53,17 +92,17 @@ def processors() -> int:
     return len(os.sched_getaffinity(0)) if hasattr(os, "sched_getaffinity") else os.cpu_count() or 1
 
 
-def jobs(text: str) -> int:
-    """A number of jobs, for `add_argument`."""
-    count = number(text, LARGEST)
+def number_of_jobs(text: str) -> int:
+    """How many plays run side by side, for `add_argument`."""
+    count = number(text, MOST_JOBS)
     if count == 0:
-        raise argparse.ArgumentTypeError("at least 1 play runs at a time")
+        raise argparse.ArgumentTypeError("the number is 0, and it has to be at least 1")
     return count
 
 
 def add_effort_arguments(parser: argparse.ArgumentParser) -> None:
     """Adds the options that say how much work a question may be."""
-    parser.add_argument("--jobs", metavar="N", type=jobs, help="how many plays run side by side; as many as there are processors by "
+    parser.add_argument("--jobs", metavar="N", type=number_of_jobs, help="how many plays run side by side; as many as there are processors by "
                         "default")
     parser.add_argument("--time", metavar="SECONDS", type=number, help="stop after so many seconds, and answer what is known by then")
     parser.add_argument("--quiet", action="store_true", help="show no progress on a terminal")
@@ -73,8 +112,6 @@ def effort_of(arguments: argparse.Namespace) -> Effort:
     """The effort that a command line allows. From here on Ctrl-C ends the work, and not the program."""
     until = None if arguments.time is None else time.monotonic() + arguments.time
     effort = Effort(arguments.jobs or processors(), until, arguments.quiet or not sys.stderr.isatty())
-    try:
+    if threading.current_thread() is threading.main_thread() and signal.getsignal(signal.SIGINT) is signal.default_int_handler:
         signal.signal(signal.SIGINT, effort.interrupt)
-    except ValueError:
-        pass  # not in the main thread, which alone gets signals
     return effort

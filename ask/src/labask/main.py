@@ -13,6 +13,7 @@ from typing import NoReturn, Optional, Sequence
 from labask.answers import Status, WrongWords
 from labask.command_words import named
 from labask.playing import Player, PlayingFault, Refused, find_program
+from labask.programs import program_behind
 
 VERSION = "1.0.0"  # that of docs/version.txt, which is not installed
 
@@ -120,7 +121,7 @@ def answered(words: Optional[Sequence[str]]) -> int:
     """Answers the question of a command line, and gives the exit status. Also the answer to `--help` is written at once."""
     try:
         arguments = make_parser().parse_args(words)
-        player = Player([find_program(arguments.labsys)])
+        player = Player([program_behind(find_program(arguments.labsys))])
         try:
             return arguments.answer(arguments, player)
         except Refused as refused:

@@ -10,12 +10,14 @@ import shutil
 import signal
 import subprocess
 import tempfile
+import threading
 import time
 from dataclasses import dataclass, replace
 from functools import cached_property
-from typing import Any, Dict, Iterator, List, Optional, Sequence, Tuple
+from typing import IO, Any, Dict, Iterable, Iterator, List, Optional, Sequence, Set, Tuple
 
-from labask.worlds import UTILITIES, Word, quoted, split_words
+from labask.effort import Effort
+from labask.worlds import MAX_INPUT, UTILITIES, Word, quoted, split_words
 
 STATUS_ACCEPTED = 0
 STATUS_REFUSED = 2
@@ -24,6 +26,7 @@ ANSWERED = (STATUS_ACCEPTED, STATUS_REFUSED, STATUS_TOO_LONG)
 VERSION = re.compile(rb"labsys [0-9]+\.[0-9]+\.[0-9]+[^ ]*$")
 COUNTS = re.compile(rb"ok ([0-9]+) ([0-9]+) ([0-9]+)\n")
 LAST_LINE = re.compile(rb"^done [0-9]+\n\Z", re.M)
+MAX_NUMBERS = 65_535  # of objects and of descriptions of a label
 FIRST_SECONDS = 10.0  # within which a program says its version
 FIRST_BYTES = 64  # of its answer that are read
 
@@ -138,29 +141,50 @@ class Played:
 
 
 class Player:
-    """Runs `labsys`: `program` has the words of its command."""
+    """Runs `labsys`: `program` has the words of its command. Its runs have sessions of their own, where no Ctrl-C reaches them."""
 
     def __init__(self, program: Sequence[str]):
         self.program = list(program)
         self.plays = 0
+        self._running: "Set[subprocess.Popen[bytes]]" = set()
+        self._lock = threading.Lock()
+
+    def start(self, words: Sequence[str], given: Any, out: Any, messages: Any) -> "subprocess.Popen[bytes]":
+        """Starts a command of `labsys` with these standard descriptors."""
+        try:
+            run = subprocess.Popen([*self.program, *words], stdin=given, stdout=out, stderr=messages, start_new_session=True)
+        except OSError as fault:
+            raise PlayingFault(f"{self.program[0]}: {fault.strerror}") from fault
+        with self._lock:
+            self.plays += 1
+            self._running.add(run)
+        return run
+
+    def wait(self, run: "subprocess.Popen[bytes]") -> int:
+        """The exit status of a run."""
+        try:
+            return run.wait()
+        finally:
+            with self._lock:
+                self._running.discard(run)
+
+    def end_all(self) -> None:
+        """Ends all runs, and what they have started."""
+        with self._lock:
+            for run in self._running:
+                kill_session(run)
 
     def run(self, words: Sequence[str], text: bytes) -> Tuple[int, bytes, bytes]:
         """The exit status of a command of `labsys`, its output, and its messages. A status other than 0, 2 and 7 is a fault."""
         with tempfile.TemporaryFile() as given, tempfile.TemporaryFile() as out, tempfile.TemporaryFile() as messages:
             given.write(text)
             given.seek(0)
-            try:
-                done = subprocess.run([*self.program, *words], stdin=given, stdout=out, stderr=messages, check=False)
-            except OSError as fault:
-                raise PlayingFault(f"{self.program[0]}: {fault.strerror}") from fault
-            out.seek(0)
-            messages.seek(0)
-            written, said = out.read(), messages.read()
-        self.plays += 1
-        if done.returncode not in ANSWERED:
+            status = self.wait(self.start(words, given, out, messages))
+            written, said = whole(out), whole(messages)
+        if status not in ANSWERED:
             last = said.decode("latin-1").strip().split("\n")[-1]
-            raise PlayingFault(f"{self.program[0]} ended with status {done.returncode}" + (f": {last}" if last else ""))
-        return done.returncode, written, said
+            raise PlayingFault(f"{self.program[0]} ended with status {status}" + (f": {last}" if last else ""))
+        return status, written, said
 
     def play(self, text: bytes) -> Played:
         """Plays a world with its script. A refused text is no fault: `refusal` of the answer has it."""
@@ -168,6 +192,10 @@ class Player:
             trail = pathlib.Path(folder) / "trail"
             status, out, messages = self.run(["play", str(trail)], text)
             return Played(status, out, trail.read_bytes() if trail.exists() else b"", messages)
+
+    def play_all(self, texts: Iterable[bytes], effort: Effort) -> Iterator[Played]:
+        """Plays worlds with their scripts, as many side by side as the effort allows, and gives what came of them in their order."""
+        return effort.results(self.play, texts)
 
     def play_accepted(self, text: bytes) -> Played:
         """Plays a world with its script, and raises `Refused` where a line is refused or the text is too long."""
@@ -205,54 +233,71 @@ class Player:
         status, out, messages = self.run(["select", spec], trail)
         if status != STATUS_ACCEPTED:
             raise Refused(trail, Played(status, out, b"", messages).refusal)
-        return json.loads("[" + ",".join(out.decode("ascii").split("\n")[:-2]) + "]")
+        records: List[Dict[str, Any]] = json.loads("[" + ",".join(out.decode("ascii").split("\n")[:-2]) + "]")
+        return records
+
+
+def pipe_end(end: "Optional[IO[bytes]]") -> "IO[bytes]":
+    """The end of a pipe of a program that was started with one."""
+    assert end is not None
+    return end
+
+
+def whole(file: "IO[bytes]") -> bytes:
+    """All bytes of a file that is open."""
+    file.seek(0)
+    return file.read()
 
 
 class Session:
     """A run of `labsys` that is asked call by call: a line is sent, and its replies are read.
 
-    Used as a context; the process ends with it. `replies` counts the calls that were made so far, and `sent`
-    the bytes of the input.
+    Used as a context; the process ends with it. `replies` counts the calls that were made so far, `sent` the bytes of the input,
+    and `opened` the numbers of descriptions that were drawn, of all labels.
     """
     BATCH_BYTES = 16_384  # less than a pipe holds, so that sending never waits for replies to be read
     MOST_READ = 4_096  # replies that are kept, since most are the same but for their tag
+    DRAWN = {"open": 1, "pipe": 2}  # numbers of descriptions that a call draws
 
     def __init__(self, player: Player, head: bytes):
-        self.player, self.head, self.replies, self.sent = player, head, 0, 0
+        self.player, self.head, self.replies, self.sent, self.opened = player, head, 0, 0, 0
         self._read: Dict[bytes, Reply] = {}
         self._folder = tempfile.TemporaryDirectory(prefix="labask-")
         self.trail_path = pathlib.Path(self._folder.name) / "trail"
 
     def __enter__(self) -> "Session":
         try:
-            self._run = subprocess.Popen([*self.player.program, "play", str(self.trail_path)], stdin=subprocess.PIPE,
-                                         stdout=subprocess.PIPE, stderr=subprocess.DEVNULL)
-        except OSError as fault:
+            self._run = self.player.start(["play", str(self.trail_path)], subprocess.PIPE, subprocess.PIPE, subprocess.DEVNULL)
+        except PlayingFault:
             self._folder.cleanup()
-            raise PlayingFault(f"{self.player.program[0]}: {fault.strerror}") from fault
-        self.player.plays += 1
+            raise
+        self._given, self._out = pipe_end(self._run.stdin), pipe_end(self._run.stdout)
         self._send(self.head)
         return self
 
     def __exit__(self, *_: object) -> None:
-        for end in (self._run.stdin, self._run.stdout):
+        for end in (self._given, self._out):
             try:
                 end.close()
             except BrokenPipeError:
                 pass
-        self._run.wait()
+        self.player.wait(self._run)
         self._folder.cleanup()
+
+    def has_room(self, size: int, opens: int = 0) -> bool:
+        """Whether lines with so many bytes and calls of `open` can be sent before a limit of the input or of descriptions comes."""
+        return self.sent + size <= MAX_INPUT and self.opened + opens <= MAX_NUMBERS
 
     def _send(self, text: bytes) -> None:
         self.sent += len(text)
         try:
-            self._run.stdin.write(text)
-            self._run.stdin.flush()
+            self._given.write(text)
+            self._given.flush()
         except BrokenPipeError as fault:
             raise PlayingFault(f"{self.player.program[0]} ended before its input") from fault
 
     def _reply(self) -> Reply:
-        line = self._run.stdout.readline()
+        line = self._out.readline()
         tag, _, rest = line.partition(b" ")
         if b"@" not in tag or not rest:
             last = Played(STATUS_REFUSED, line, b"", b"")
@@ -261,7 +306,10 @@ class Session:
         if rest not in self._read:
             self._read = self._read if len(self._read) < self.MOST_READ else {}
             self._read[rest] = read_reply(0, split_words(line.rstrip(b"\n"))[0])
-        return replace(self._read[rest], number=self.replies, tag=tag.decode("latin-1"))
+        found = self._read[rest]
+        if found.outcome is Outcome.DONE:
+            self.opened += self.DRAWN.get(found.call, 0)
+        return replace(found, number=self.replies, tag=tag.decode("latin-1"))
 
     def line(self, text: str, calls: int = 1) -> List[Reply]:
         """The replies to a line of the script that makes so many calls."""
@@ -328,9 +376,10 @@ def require_labsys(path: str) -> None:
     except OSError as fault:
         raise PlayingFault(f"{path}: {fault.strerror}") from fault
     try:
-        line, late = first_line(run.stdout.fileno())
+        line, late = first_line(pipe_end(run.stdout).fileno())
     finally:
-        end_session(run)
+        with run:
+            kill_session(run)
     if not VERSION.match(line):
         said = f"did not answer within {FIRST_SECONDS:.0f} seconds" if late else f"answered {quoted(line)}"
         raise PlayingFault(f"{path} is not labsys: asked for its version, it {said}")
@@ -349,10 +398,9 @@ def first_line(descriptor: int) -> Tuple[bytes, bool]:
     return line.partition(b"\n")[0], False
 
 
-def end_session(run: "subprocess.Popen[bytes]") -> None:
+def kill_session(run: "subprocess.Popen[bytes]") -> None:
     """Ends a program that has a session of its own, and what it has started there."""
-    with run:
-        try:
-            os.killpg(run.pid, signal.SIGKILL)
-        except ProcessLookupError:
-            pass
+    try:
+        os.killpg(run.pid, signal.SIGKILL)
+    except ProcessLookupError:
+        pass
