@@ -15,4 +15,4 @@ python3 tests/trails.py --cmd ./labsys || exit $?
 python3 tests/least.py --cmd ./labsys || exit $?
 python3 tests/programs.py --cmd ./labsys || exit $?
 python3 tests/run_cases.py --cmd ./labsys tests/cases || exit $?
-python3 ask/tests/run.py --cmd crates/labsys/out/labsys
+LABSYS=crates/labsys/out/labsys tests/check_labask.sh

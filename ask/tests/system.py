@@ -4,44 +4,41 @@ import pathlib
 import shutil
 import subprocess
 import sys
+from typing import List, Optional, Tuple
 
-HERE = pathlib.Path(__file__).resolve().parent
-LABASK = HERE.parent / "labask"
+from support import LABASK
+
 USER = 1000
 PLAIN = {"PATH": "/usr/local/bin:/usr/bin:/bin:/usr/sbin:/sbin", "LC_ALL": "C", "HOME": "/"}
 
-sys.path.insert(0, str(HERE.parent))
 
-
-def program():
+def program() -> str:
     """The program `labsys`."""
     return os.environ["LABSYS"]
 
 
-def labask(*words, given=b"", status=0):
+def labask(*words: "str | os.PathLike[str]", given: bytes = b"", status: int = 0) -> Tuple[bytes, str]:
     """The output and the messages of `labask`, which is to end with this status."""
     done = subprocess.run([sys.executable, str(LABASK), *map(os.fspath, words)], input=given, stdout=subprocess.PIPE,
                           stderr=subprocess.PIPE, check=False)
-    if done.returncode != status:
-        said = done.stderr.decode()
-        raise AssertionError(f"labask {' '.join(map(str, words))}: status {done.returncode}, not {status}: {said}")
-    return done.stdout, done.stderr.decode()
+    said = done.stderr.decode()
+    assert done.returncode == status, f"labask {' '.join(map(str, words))}: status {done.returncode}, not {status}: {said}"
+    return done.stdout, said
 
 
-def play(text):
+def play(text: bytes) -> List[bytes]:
     """The lines that `labsys play` writes for a text that it accepts."""
     done = subprocess.run([program(), "play", os.devnull], input=text, stdout=subprocess.PIPE, check=False)
-    if done.returncode != 0:
-        raise AssertionError(f"labsys play: status {done.returncode}: {done.stdout.splitlines()[-1:]}")
+    assert done.returncode == 0, f"labsys play: status {done.returncode}: {done.stdout.splitlines()[-1:]!r}"
     return done.stdout.split(b"\n")[:-1]
 
 
-def root():
+def root() -> bool:
     """Whether this test may change owners and capabilities."""
     return os.geteuid() == 0
 
 
-def strace():
+def strace() -> Optional[str]:
     """The path of strace where it can trace here, and else None."""
     found = shutil.which("strace")
     if found is None:
@@ -50,7 +47,7 @@ def strace():
     return found if tried.returncode == 0 else None
 
 
-def as_user():
+def as_user() -> None:
     """What a child does before its program where this test is root: it becomes a user without privilege."""
     if root():
         os.setgroups([USER])
@@ -59,7 +56,7 @@ def as_user():
     os.umask(0o022)
 
 
-def give(tree):
+def give(tree: pathlib.Path) -> None:
     """Gives a tree to the user without privilege, where this test is root."""
     if root():
         os.chown(tree, USER, USER)
@@ -68,6 +65,6 @@ def give(tree):
                 os.lchown(os.path.join(folder, name), USER, USER)
 
 
-def own_ids():
-    """The user and the group that `as_user` leaves."""
+def own_ids() -> Tuple[int, int, str]:
+    """The user, the group and the groups that `as_user` leaves."""
     return (USER, USER, str(USER)) if root() else (os.getuid(), os.getgid(), ",".join(map(str, os.getgroups()[:16])) or "-")

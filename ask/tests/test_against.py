@@ -1,13 +1,11 @@
-#!/usr/bin/env python3
 """`why --against`: replies compared with a log written by hand, of which each line says how it differs."""
 import json
-import pathlib
 import re
-import tempfile
 
+import pytest
 from system import labask
 
-from labask.strace.comparing import KNOWN, Verdict, known_texts
+from labask.strace.comparing import Verdict
 
 WORLD = b"""\
 # root "/srv/site"
@@ -25,6 +23,7 @@ proc base 7 9 9,10 "="
 script
 """
 SAME, DENIED, KNOWN_ONE, OTHER = Verdict
+pytestmark = pytest.mark.usefixtures("program")
 STAT = "newfstatat(AT_FDCWD</srv/site>, \"a\", {st_mode=%s, st_nlink=%d, st_uid=%d, st_gid=%d, st_size=%d}, 0) = 0"
 # each line of the log, and the verdict that is due with a part of its text; None where the line is no call that is played
 LOG = [
@@ -114,24 +113,29 @@ def compared(folder, world, lines):
     return {each["log_line"]: each for each in found["calls"]}, labask("why", folder / "run", "--against", folder / "log")[0], run
 
 
-def check_verdicts(folder):
+@pytest.fixture(scope="module")
+def whole(tmp_path_factory, program):
+    """What `labask` says of the whole log."""
+    return compared(tmp_path_factory.mktemp("log"), WORLD, [line for line, verdict, _ in LOG])
+
+
+@pytest.mark.parametrize("number", range(1, len(LOG) + 1))
+def test_verdicts(number, whole):
     """Each line gets its verdict, and those that are denied are explained."""
-    found, text, _ = compared(folder, WORLD, [line for line, verdict, _ in LOG])
-    for number, (line, verdict, part) in enumerate(LOG, 1):
-        here = (found[number]["verdict"], found[number]["text"]) if number in found else (None, "")
-        if here != (verdict.value if verdict else None, part):
-            raise AssertionError(f"{line}: {here}, not {verdict}, {part}")
-        if verdict is DENIED and found[number]["why"]["caller"]["label"] != "base":
-            raise AssertionError(f"{line}: {found[number]['why']}")
-    for verdict in (DENIED, OTHER):
-        count = sum(verdict is each for _, each, _ in LOG)
-        if text.count(f"\n{verdict.value}, line ".encode()) + text.startswith(verdict.value.encode()) != count:
-            raise AssertionError(f"{count} lines of {verdict.value} in {text}")
-        if f"  {count} {verdict.value}\n".encode() not in text:
-            raise AssertionError(f"{count} {verdict.value}: {text}")
+    line, verdict, part = LOG[number - 1]
+    found = whole[0].get(number, {"verdict": None, "text": ""})
+    assert (found["verdict"], found["text"]) == (verdict.value if verdict else None, part), line
+    assert verdict is not DENIED or found["why"]["caller"]["label"] == "base"
 
 
-def check_order(folder):
+@pytest.mark.parametrize("verdict", (DENIED, OTHER))
+def test_verdicts_are_counted(verdict, whole):
+    count, text = sum(verdict is each for _, each, _ in LOG), whole[1].decode()
+    assert f"\n{text}".count(f"\n{verdict.value}, line ") == count
+    assert f"  {count} {verdict.value}\n" in text
+
+
+def test_order(tmp_path):
     """A call that waits counts where it returns, and any other where it begins."""
     lines = ['pipe2([6<pipe:[5]>, 7<pipe:[5]>], 0) = 0', 'fork( <unfinished ...>', '101 close(7<pipe:[5]>) = 0',
              '101 read(6<pipe:[5]>,  <unfinished ...>', '<... fork resumed>) = 101',
@@ -139,45 +143,28 @@ def check_order(folder):
              '101 <... read resumed>"xy", 9) = 2', '<... write resumed>) = 2', 'close(6<pipe:[5]>) = 0',
              'wait4(-1,  <unfinished ...>', '101 exit_group(0) = ?', '101 +++ exited with 0 +++',
              '<... wait4 resumed>[{WIFEXITED(s) && WEXITSTATUS(s) == 0}], 0, NULL) = 101', 'exit_group(0) = ?']
-    found, _, run = compared(folder, WORLD, lines)
-    wrong = [each for each in found.values() if each["verdict"] != SAME.value]
+    found, _, run = compared(tmp_path, WORLD, lines)
+    assert {each["verdict"] for each in found.values()} == {SAME.value}
     calls = [line.split(b" ", 1)[1] for line in run.split(b"\n") if re.match(rb"\d@base ", line)]
-    due = [b"pipe", b"fork", b"close 1", b'write 1 "xy"', b"read 0 2", b"close 0", b"exit 0", b"wait", b"exit 0"]
-    if wrong or calls != due:
-        raise AssertionError(f"{wrong} {calls}")
+    assert calls == [b"pipe", b"fork", b"close 1", b'write 1 "xy"', b"read 0 2", b"close 0", b"exit 0", b"wait", b"exit 0"]
 
 
-def check_many(folder):
+def test_many(tmp_path):
     """Of many calls that are denied the first are explained."""
-    lines = [f'mkdir("top/{number}", 0700) = 0' for number in range(12)]
-    found, text, _ = compared(folder, WORLD, lines)
-    explained = [number for number, each in found.items() if each["why"]]
-    if explained != list(range(1, 11)) or b"The first 10 of the 12 calls that are denied here are explained.\n" not in text:
-        raise AssertionError(f"{explained} {text}")
+    found, text, _ = compared(tmp_path, WORLD, [f'mkdir("top/{number}", 0700) = 0' for number in range(12)])
+    assert [number for number, each in found.items() if each["why"]] == list(range(1, 11))
+    assert b"The first 10 of the 12 calls that are denied here are explained.\n" in text
 
 
-def check_foreign(folder):
-    """A script that no comment ties to the log, and one of another log."""
-    compared(folder, WORLD, ['getpid() = 100'])
-    (folder / "plain").write_bytes(WORLD + b"1@base getpid\n")
-    text = labask("why", folder / "plain", "--against", folder / "log")[0]
-    if text != b"0 calls of the log were played\nEvery answer was played by labsys.\n":
-        raise AssertionError(text)
-    (folder / "other").write_bytes(WORLD + b"# 2: getpid() = 100\n1@base getpid\n")
-    labask("why", folder / "other", "--against", folder / "log", status=1)
+def test_script_of_no_log(tmp_path):
+    """A script that no comment ties to the log."""
+    compared(tmp_path, WORLD, ['getpid() = 100'])
+    (tmp_path / "plain").write_bytes(WORLD + b"1@base getpid\n")
+    text = labask("why", tmp_path / "plain", "--against", tmp_path / "log")[0]
+    assert text == b"0 calls of the log were played\nEvery answer was played by labsys.\n"
 
 
-def main():
-    with tempfile.TemporaryDirectory(prefix="labask-") as name:
-        folder = pathlib.Path(name)
-        check_verdicts(folder)
-        check_order(folder)
-        check_many(folder)
-        check_foreign(folder)
-    shown = {text for _, _, text in LOG} & set(known_texts())
-    print(f"{len(LOG)} lines of a log with their verdicts; {len(shown)} of {len(known_texts())} known differences, "
-          f"{len(set(KNOWN.values()))} of them by the errors alone")
-
-
-if __name__ == "__main__":
-    main()
+def test_script_of_another_log(tmp_path):
+    compared(tmp_path, WORLD, ['getpid() = 100'])
+    (tmp_path / "other").write_bytes(WORLD + b"# 2: getpid() = 100\n1@base getpid\n")
+    labask("why", tmp_path / "other", "--against", tmp_path / "log", status=1)

@@ -1,23 +1,26 @@
-#!/usr/bin/env python3
-"""Tests the question `check`: it names the line that `labsys` names, and finds a fault there of the kind of the refusal.
+"""`check`: it names the line that `labsys` names, and finds a fault there of the kind of the refusal.
 
-The usual mistakes are those of docs/FORMATS.md; a thousand more texts are examples with a change from a seed.
+The usual mistakes are those of docs/FORMATS.md; a thousand more texts are examples with a random change.
 """
+import collections
 import json
 import re
-import tempfile
 
-from support import EXAMPLES, TOP, labask, player, report, seeds
-
-from labask import check
-from labask import elsewhere
 import mistakes
+import pytest
+from hypothesis import given, settings
+from strategies import faulty_texts
+from support import EXAMPLES, TOP, labask
+
+from labask import check, elsewhere
 from labask.playing import Refused
 from labask.signatures import CALLS, CAPABILITIES, LINES, UTILITIES
 
-BROKEN = 1000
+REFUSED = 1000
+FORMATS = (TOP / "docs" / "FORMATS.md").read_text(encoding="utf-8")
+WORLD = mistakes.world_of(FORMATS)
 NOTHING = "no fault was found that this word names"
-# the messages that the question promises: a line of a world or of a script, and how its message ends
+# the messages that the question promises: a line of a world or of a script, how its message ends, and what is marked
 MESSAGES = [
     ("world", "directory /a 0755 0 0 public", 'word 1 "directory": expected dir, file, fifo, proc or script', "directory"),
     ("world", "dir /a 0755 0 0 public\r", "carriage return; lines end with a line feed alone", "?"),
@@ -163,210 +166,175 @@ ALL = [
 ]
 
 
-def answer_about(text, folder):
-    """The exit status and the lines of `labask check` of a text."""
-    path = f"{folder}/world.txt"
-    with open(path, "wb") as file:
-        file.write(text)
-    status, out, _ = labask("check", path)
-    return status, out.replace(path, "world.txt").splitlines()
+pytestmark = pytest.mark.usefixtures("program")
+
+
+def around(part):
+    """What stands before and behind a line of the world, or of the script, of the usual mistakes."""
+    return (WORLD, "") if part == "script" else (WORLD[:-len("script\n")], "script\n")
+
+
+@pytest.fixture
+def asked(tmp_path):
+    """Asks about a text: gives the exit status of `check`, and its lines."""
+    path = tmp_path / "world.txt"
+
+    def ask(text, *options):
+        path.write_bytes(text if isinstance(text, bytes) else text.encode())
+        status, out, _ = labask("check", *options, path)
+        return status, out.replace(str(path), "world.txt").splitlines()
+
+    return ask
 
 
 def marked(lines):
     """The part of the shown line that stands above the mark."""
-    begin = lines[2].index("^")
-    return lines[1][begin:len(lines[2])]
+    return lines[1][lines[2].index("^"):len(lines[2])]
 
 
-def message_faults(folder):
-    """The promised messages that are not given."""
-    world = mistakes.world_of((TOP / "docs" / "FORMATS.md").read_text())
-    for part, line, message, below in MESSAGES:
-        before = world if part == "script" else world[:-len("script\n")]
-        number = before.count("\n") + 1
-        status, lines = answer_about(f"{before}{line}\n{'' if part == 'script' else 'script' + chr(10)}".encode(), folder)
-        if status != 2 or lines[0] != f"world.txt:{number}: {message}" or marked(lines) != below:
-            yield f"{line!r}: {lines}"
+def case_id(case):
+    """The name of a test of a line."""
+    return ascii(case[1])[1:-1]
 
 
-def slip_faults(folder):
-    """The usual slips that are not explained as they should be, or whose lines to write are refused."""
-    world = mistakes.world_of((TOP / "docs" / "FORMATS.md").read_text())
-    for part, line, message, below, due in SLIPS:
-        before, behind = (world, "") if part == "script" else (world[:-len("script\n")], "script\n")
-        status, lines = answer_about(f"{before}{line}\n{behind}".encode(), folder)
-        written = [text[len("  write: "):] for text in lines[3:-1]]
-        if status != 2 or message not in lines[0] or marked(lines) != below or written != due:
-            yield f"{line!r}: {lines}"
-        if written:
-            status, lines = answer_about("".join([before, *(text + "\n" for text in written), behind]).encode(), folder)
-            if status != 0:
-                yield f"{written}: {lines}"
+@pytest.mark.parametrize("part, line, message, below", MESSAGES, ids=map(case_id, MESSAGES))
+def test_messages(part, line, message, below, asked):
+    before, behind = around(part)
+    status, lines = asked(f"{before}{line}\n{behind}")
+    assert status == 2 and lines[0] == f"world.txt:{before.count(chr(10)) + 1}: {message}" and marked(lines) == below
 
 
-def name_faults():
-    """Names elsewhere that are calls here, and calls that are to be written and are none."""
-    yield from (f"{name} is a call here" for name in sorted(elsewhere.NAMES & {*CALLS, *UTILITIES}))
-    yield from (f"{call} is no call here" for call in sorted(set(elsewhere.RENAMED.values()) - {*CALLS, *UTILITIES}))
+@pytest.mark.parametrize("part, line, message, below, due", SLIPS, ids=map(case_id, SLIPS))
+def test_slips(part, line, message, below, due, asked):
+    """The usual slips are explained, and the lines to write are accepted."""
+    before, behind = around(part)
+    status, lines = asked(f"{before}{line}\n{behind}")
+    written = [text[len("  write: "):] for text in lines[3:-1]]
+    assert status == 2 and message in lines[0] and marked(lines) == below and written == due, lines
+    if written:
+        status, lines = asked("".join([before, *(text + "\n" for text in written), behind]))
+        assert status == 0, lines
 
 
-def note_faults(folder):
-    """Whether what an accepted line seems not to mean is noted, and nothing else."""
-    world = mistakes.world_of((TOP / "docs" / "FORMATS.md").read_text())
-    for part, line, due in NOTES:
-        before, behind = (world, "") if part == "script" else (world[:-len("script\n")], "script\n")
-        status, lines = answer_about(f"{before}{line}\n{behind}".encode(), folder)
-        shown = [(lines[at].partition(": ")[2], marked(lines[at:])) for at in range(1, len(lines), 3)]
-        if status != 0 or len(shown) != len(due) or any(text not in note[0] or below != note[1]
-                                                         for note, (text, below) in zip(shown, due)):
-            yield f"{line!r}: {lines}"
+def test_names_elsewhere_are_no_calls():
+    assert not elsewhere.NAMES & {*CALLS, *UTILITIES}
 
 
-def least_faults(folder):
-    """Whether it is explained what `least` alone refuses: every call that asks for capability sets, and no other."""
-    world = mistakes.world_of((TOP / "docs" / "FORMATS.md").read_text())
-    calls = ["cap_get_file /eng", 'cap_set_file /eng "="', "cap_get_fd 0", 'cap_set_fd 0 "="', "cap_get_proc", 'cap_set_proc "="',
-             "getfcap /eng", 'setfcap "=" /eng']
-    path = f"{folder}/world.txt"
-    with open(path, "w", encoding="ascii") as file:
-        file.write("".join([world, *(f"{TAG} getpid\n{TAG} {call}\n" for call in calls), "getpid\n"]))
-    status, out, _ = labask("check", "--least", "--all", path)
-    lines = out.splitlines()
-    due = [f'{path}:{11 + 2 * at}: word 2 "{call.split()[0]}": it asks for capability sets' for at, call in enumerate(calls)]
-    due.append(f"{path}:26: ")
-    shown = [lines[3 * at] for at in range(len(due))]
-    if status != 2 or lines[-1] != "labsys: refused 11 script caps_asked" or not all(map(str.startswith, shown, due)):
-        yield f"--least --all: {lines}"
-    status, out, _ = labask("check", path)
-    if status != 2 or not out.startswith(due[-1]):
-        yield f"without --least: {out}"
-    with open(path, "w", encoding="ascii") as file:
-        file.write(f"{world}{TAG} getpid\n")
-    status, out, _ = labask("check", "--least", path)
-    if status != 0 or ": labsys least accepts it, with " not in out:
-        yield f"--least: {out}"
+def test_calls_to_be_written_are_calls():
+    assert set(elsewhere.RENAMED.values()) <= {*CALLS, *UTILITIES}
 
 
-def all_faults(folder):
-    """Whether `check --all` shows each faulty line, and says where it went no further."""
-    for text, numbers, last in ALL:
-        path = f"{folder}/world.txt"
-        with open(path, "w", encoding="ascii") as file:
-            file.write(text)
-        status, out, _ = labask("check", "--all", path)
-        lines = out.replace(path, "world.txt").splitlines()
-        shown = [int(found[1]) for found in (re.match(r"world\.txt:(\d+): ", line) for line in lines) if found]
-        if status != 2 or shown != numbers or last not in lines[-2] or not lines[-1].startswith(f"labsys: refused {numbers[0]} "):
-            yield f"--all: {lines}"
-        status, out, _ = labask("check", "--all", "--json", path)
-        if status != 2 or [fault["line"] for fault in json.loads(out)["faults"]] != numbers:
-            yield f"--all --json: {out}"
+@pytest.mark.parametrize("part, line, due", NOTES, ids=map(case_id, NOTES))
+def test_notes(part, line, due, asked):
+    """What an accepted line seems not to mean is noted, and nothing else."""
+    before, behind = around(part)
+    status, lines = asked(f"{before}{line}\n{behind}")
+    shown = [(lines[at].partition(": ")[2], marked(lines[at:])) for at in range(1, len(lines), 3)]
+    assert status == 0 and [below for _, below in shown] == [below for _, below in due], lines
+    assert all(text in note for (note, _), (text, _) in zip(shown, due)), lines
 
 
-def mistake_faults(folder):
-    """The usual mistakes whose line or kind of fault is not found."""
-    for text, last, shown in mistakes.mistakes_of((TOP / "docs" / "FORMATS.md").read_text()):
-        found = re.match(r"refused (\d+) ", last)
-        status, lines = answer_about(text.encode(), folder)
-        good = status == 2 and lines[0].startswith(f"world.txt:{found[1]}: ") and lines[-1] == f"labsys: {last}" if found else not status
-        if not good or NOTHING in lines[0]:
-            yield f"{shown}: {lines}"
+ASKING = ["cap_get_file /eng", 'cap_set_file /eng "="', "cap_get_fd 0", 'cap_set_fd 0 "="', "cap_get_proc", 'cap_set_proc "="',
+          "getfcap /eng", 'setfcap "=" /eng']
 
 
-def broken(draw, texts):
-    """An example with a change: of a byte, a word, or a line."""
-    text = draw.choice(texts)
-    kind, at = draw.randrange(7), draw.randrange(len(text))
-    lines = text.split(b"\n")
-    if kind == 0:
-        return text[:at] + text[at + 1:]
-    if kind == 1:
-        return text[:at] + bytes([draw.randrange(256)]) + text[at + 1:]
-    if kind == 2:
-        return text[:at] + draw.choice((b" ", b'"', b"\r", b"\t", b"\\", b"@", b",", b"/", b"\xff")) + text[at:]
-    if kind == 3:
-        return text[:at]
-    row = draw.randrange(len(lines) - 1)
-    if kind == 4:
-        return b"\n".join(lines[:row] + lines[row + 1:])
-    if kind == 5:
-        return b"\n".join(lines[:row] + [draw.choice(lines)] + lines[row:])
-    words = lines[row].split(b" ")
-    words[draw.randrange(len(words))] = draw.choice(draw.choice(lines).split(b" "))
-    return b"\n".join(lines[:row] + [b" ".join(words)] + lines[row + 1:])
+def test_least(asked):
+    """It is explained what `least` alone refuses: every call that asks for capability sets, and no other."""
+    text = "".join([WORLD, *(f"{TAG} getpid\n{TAG} {call}\n" for call in ASKING), "getpid\n"])
+    status, lines = asked(text, "--least", "--all")
+    due = [f'world.txt:{11 + 2 * at}: word 2 "{call.split()[0]}": it asks for capability sets' for at, call in enumerate(ASKING)]
+    assert status == 2 and lines[-1] == "labsys: refused 11 script caps_asked"
+    assert all(map(str.startswith, lines[::3], [*due, "world.txt:26: "])), lines
+    status, lines = asked(text)
+    assert status == 2 and lines[0].startswith("world.txt:26: "), "without --least"
 
 
-def order_faults(faults):
-    """Faults that are not in the order of their lines, or that nothing explains."""
+def test_least_accepts(asked):
+    status, lines = asked(f"{WORLD}{TAG} getpid\n", "--least")
+    assert status == 0 and ": labsys least accepts it, with " in lines[0]
+
+
+@pytest.mark.parametrize("text, numbers, last", ALL, ids=map(str, range(len(ALL))))
+def test_all(text, numbers, last, asked):
+    """`check --all` shows each faulty line, and says where it went no further."""
+    status, lines = asked(text, "--all")
+    shown = [int(found[1]) for found in (re.match(r"world\.txt:(\d+): ", line) for line in lines) if found]
+    assert status == 2 and shown == numbers
+    assert last in lines[-2] and lines[-1].startswith(f"labsys: refused {numbers[0]} ")
+    status, lines = asked(text, "--all", "--json")
+    assert status == 2 and [fault["line"] for fault in json.loads("\n".join(lines))["faults"]] == numbers
+
+
+MISTAKES = list(mistakes.mistakes_of(FORMATS))
+
+
+@pytest.mark.parametrize("text, last, shown", MISTAKES, ids=[shown for _, _, shown in MISTAKES])
+def test_usual_mistakes(text, last, shown, asked):
+    """The line and the kind of fault are found."""
+    found = re.match(r"refused (\d+) ", last)
+    status, lines = asked(text)
+    assert NOTHING not in lines[0]
+    if found:
+        assert status == 2 and lines[0].startswith(f"world.txt:{found[1]}: ") and lines[-1] == f"labsys: {last}"
+    else:
+        assert status == 0
+
+
+def judge_all(faults):
+    """The faults are in the order of their lines, and each is explained."""
     numbers = [refusal.line for refusal, _ in faults.found]
-    if numbers != sorted(set(numbers)):
-        yield f"lines {numbers}"
-    yield from (found.message for _, found in faults.found if NOTHING in found.message)
+    assert numbers == sorted(set(numbers))
+    assert not [found.message for _, found in faults.found if NOTHING in found.message]
 
 
-def broken_faults(counts):
-    """The broken texts whose line or kind of fault is not found; counts those that are refused and those that are not."""
-    texts, asked = [path.read_bytes() for path in EXAMPLES], player()
-    for seed, draw in enumerate(seeds(10 * BROKEN)):
-        if counts["refused"] == BROKEN:
-            return
-        text = broken(draw, texts)
+def test_faulty_texts(player):
+    """The line and the kind of fault are found in examples with a random change; of some every fault is shown."""
+    counts = collections.Counter()
+
+    @settings(max_examples=2 * REFUSED)
+    @given(faulty_texts([path.read_bytes() for path in EXAMPLES]))
+    def judge(text):
         try:
-            asked.check(text)
-            counts["accepted"] += 1
+            player.check(text)
         except Refused as refused:
             counts["refused"] += 1
-            found = check.explain(text, refused.refusal, "world.txt", asked)
-            if not found[0].startswith(f"world.txt:{refused.refusal.line}: ") or NOTHING in found[0]:
-                yield f"seed {seed}: {refused}: {found}"
-            if counts["refused"] % 20 == 0:
-                faults = check.every_fault(text, refused.refusal, asked, asked.check)
-                yield from (f"seed {seed}: {fault}" for fault in order_faults(faults))
+            found = check.explain(text, refused.refusal, "world.txt", player)
+            assert found[0].startswith(f"world.txt:{refused.refusal.line}: ") and NOTHING not in found[0], found
+            if len(text) % 20 == 0:
+                judge_all(check.every_fault(text, refused.refusal, player, player.check))
+
+    judge()
+    assert counts["refused"] >= REFUSED
 
 
-def table_faults():
-    """Signatures of calls, utilities and lines of a world, and capabilities, that the documents have otherwise."""
-    formats, calls = (TOP / "docs" / "FORMATS.md").read_text(), (TOP / "docs" / "CALLS.md").read_text()
-    cells = [cell for row in re.findall(r"^\| (`.*?`) \|", calls, re.M) for cell in re.findall(r"`([^`]+)`", row)]
+CALLS_PAGE = (TOP / "docs" / "CALLS.md").read_text(encoding="utf-8")
+
+
+def test_calls_of_the_page():
+    cells = [cell for row in re.findall(r"^\| (`.*?`) \|", CALLS_PAGE, re.M) for cell in re.findall(r"`([^`]+)`", row)]
     documented = {cell.split()[0]: " ".join(cell.replace("\\|", "|").split()[1:]) for cell in cells if cell.split()[0] in CALLS}
-    if documented != CALLS:
-        yield f"calls: {sorted(set(documented.items()) ^ set(CALLS.items()))}"
-    shown = dict(re.findall(r"^\| `TAG (\w+) ([^`]*)` \|", formats, re.M))
-    if shown != UTILITIES:
-        yield f"utilities: {shown}"
-    lines = dict(re.findall(r"^\| `(dir|file|fifo|proc) ((?:PATH|LABEL) [^`]*)` \|", formats, re.M))
-    if lines != LINES:
-        yield f"lines: {lines}"
+    assert documented == CALLS
+
+
+def test_utilities_of_the_page():
+    assert dict(re.findall(r"^\| `TAG (\w+) ([^`]*)` \|", FORMATS, re.M)) == UTILITIES
+
+
+def test_lines_of_the_page():
+    assert dict(re.findall(r"^\| `(dir|file|fifo|proc) ((?:PATH|LABEL) [^`]*)` \|", FORMATS, re.M)) == LINES
+
+
+def test_capabilities_of_the_page():
     profile = (TOP / "docs" / "PROFILE.md").read_text().split("## Capabilities")[1].split("The five")[0]
-    if tuple(dict.fromkeys(re.findall(r"`(cap_\w+)`", profile))) != CAPABILITIES:
-        yield "capabilities"
+    assert tuple(dict.fromkeys(re.findall(r"`(cap_\w+)`", profile))) == CAPABILITIES
 
 
-def no_process_faults(folder):
-    """Whether a reply ESRCH is explained: by who lives at the label when the call is made."""
+def test_no_process(asked):
+    """A reply ESRCH is explained: by who lives at the label when the call is made."""
     world = b"world 2\nlevels a b\ncategories\nbound all\ndir / 0755 0 0 a\n" + b'proc a 1 1 - "="\n' * 2 + b"script\n"
     script = b"3@a getpid\n1@a fork\n3@a exit 0\n3@a getpid\n1@a kill 4@a 0\n1@b getpid\n"
-    _, lines = answer_about(world + script, folder)
-    due = ["world.txt:9: ESRCH: 3@a is no living process; those of a are: 1@a, 2@a",
-           "world.txt:12: ESRCH: 3@a is no living process; those of a are: 1@a, 2@a",
-           "world.txt:13: ESRCH: 4@a is no living process; those of a are: 1@a, 2@a",
-           "world.txt:14: ESRCH: 1@b is no living process; those of b are: none"]
-    if lines[1:] != due:
-        yield f"ESRCH: {lines}"
-
-
-def main():
-    counts = {"refused": 0, "accepted": 0}
-    with tempfile.TemporaryDirectory() as folder:
-        faults = [*message_faults(folder), *slip_faults(folder), *all_faults(folder), *note_faults(folder), *mistake_faults(folder),
-                  *least_faults(folder), *table_faults(), *name_faults(), *no_process_faults(folder)]
-    faults += broken_faults(counts)
-    if counts["refused"] < BROKEN:
-        faults.append(f"only {counts['refused']} texts were refused")
-    report(f"refused texts are explained at the line that labsys names, beside {len(MESSAGES) + len(SLIPS)} messages and the "
-           "usual mistakes",
-           counts["refused"] - len(faults), faults)
-
-
-if __name__ == "__main__":
-    main()
+    assert asked(world + script)[1][1:] == [
+        "world.txt:9: ESRCH: 3@a is no living process; those of a are: 1@a, 2@a",
+        "world.txt:12: ESRCH: 3@a is no living process; those of a are: 1@a, 2@a",
+        "world.txt:13: ESRCH: 4@a is no living process; those of a are: 1@a, 2@a",
+        "world.txt:14: ESRCH: 1@b is no living process; those of b are: none"]

@@ -1,10 +1,10 @@
-#!/usr/bin/env python3
-"""Tests the completion of `labask`: bash completes the questions and the options that they have, and zsh has them too."""
+"""The completion of `labask`: bash completes the questions and the options that they have, and zsh has them too."""
 import re
 import shutil
 import subprocess
 
-from support import TOP, report
+import pytest
+from support import TOP
 
 from labask import main as labask_main
 
@@ -27,34 +27,29 @@ def completed(*words):
     return set(done.stdout.decode().split())
 
 
-def bash_faults():
-    """What bash completes otherwise than it should."""
-    due = {("",): {*labask_main.QUESTIONS, *options_of(None)}, ("--l",): {"--labsys"}, ("c",): {"check", "cuts"},
-           ("--labsys", "check", "w"): {"who", "why", "world"}, ("--labsys", ""): set(), ("who", "f"): set(),
-           ("who", "--process", "--"): set(), ("page", "f", "--json", "--o"): {"--output"}}
-    due.update({(question, "--"): options_of(question) for question in labask_main.QUESTIONS})
-    yield from (f"bash: {words}: {sorted(completed(*words) ^ there)}" for words, there in due.items() if completed(*words) != there)
+def zsh_options(text):
+    """The options that a part of the completion for zsh has."""
+    return set(re.findall(r"--[\w-]+(?=\[)", text))
 
 
-def zsh_faults():
-    """Questions and options that the completion for zsh lacks, or has beside those that there are."""
+@pytest.mark.skipif(shutil.which("bash") is None, reason="there is no bash")
+@pytest.mark.parametrize("words, due", [
+    (("",), {*labask_main.QUESTIONS, *options_of(None)}), (("--l",), {"--labsys"}),
+    (("c",), {name for name in labask_main.QUESTIONS if name.startswith("c")}),
+    (("--labsys", "check", "w"), {name for name in labask_main.QUESTIONS if name.startswith("w")}), (("--labsys", ""), set()),
+    (("who", "f"), set()), (("who", "--process", "--"), set()), (("page", "f", "--json", "--o"), {"--output"}),
+    *(((question, "--"), options_of(question)) for question in labask_main.QUESTIONS),
+], ids=str)
+def test_bash(words, due):
+    assert completed(*words) == due
+
+
+def test_questions_of_zsh():
+    assert re.findall(r"^    '([a-z]+):", ZSH.read_text(encoding="ascii"), re.M) == list(labask_main.QUESTIONS)
+
+
+@pytest.mark.parametrize("question", labask_main.QUESTIONS)
+def test_options_of_zsh(question):
     text = ZSH.read_text(encoding="ascii")
-    if re.findall(r"^    '([a-z]+):", text, re.M) != list(labask_main.QUESTIONS):
-        yield "zsh: the questions"
-    common = set(re.findall(r"--[\w-]+(?=\[)", text.partition("common=(")[2].partition(")\n")[0]))
-    for question in labask_main.QUESTIONS:
-        part = re.search(rf"^    {question}\)(.*?);;$", text, re.M | re.S)
-        found = common | set(re.findall(r"--[\w-]+(?=\[)", part[1])) if part else set()
-        if found != options_of(question):
-            yield f"zsh: {question}: {sorted(found ^ options_of(question))}"
-
-
-def main():
-    faults = list(zsh_faults())
-    if shutil.which("bash"):
-        faults += bash_faults()
-    report("questions are completed with their options", len(labask_main.QUESTIONS), faults)
-
-
-if __name__ == "__main__":
-    main()
+    part = re.search(rf"^    {question}\)(.*?);;$", text, re.M | re.S)
+    assert part and zsh_options(text.partition("common=(")[2].partition(")\n")[0]) | zsh_options(part[1]) == options_of(question)

@@ -1,24 +1,22 @@
-#!/usr/bin/env python3
-"""Asks `check` and `who` about every example and the input of every case; `why` about all of them is asked by test_why.py.
+"""`check` and `who` about every example and the input of every case; `why` about all of them is asked by test_why.py.
 
 An answer has exit status 0 or 2, as `labsys` accepts the input or not, and `check` names the line that `labsys` names.
 """
-import pathlib
-import tempfile
-
-from support import EXAMPLES, case_inputs, labask, player, report
+import pytest
+from support import EXAMPLES, case_inputs, labask
 
 from labask.playing import Refused
 from labask.worlds import read_world
 
 MOST_CELLS = 3000  # of a table; about the objects of larger worlds, the first ones are asked
 MOST_BYTES = 1_000_000  # of a refused input about which `who` is asked too, which says the same as `check`
+INPUTS = {**{path.name: path.read_bytes() for path in EXAMPLES}, **case_inputs()}
 
 
-def refusal_of(asked, text):
+def refusal_of(player, text):
     """The refusal of an input, as `labsys check` writes it; None where it is accepted."""
     try:
-        asked.check(text)
+        player.check(text)
     except Refused as refused:
         return str(refused)
     return None
@@ -33,34 +31,19 @@ def first_paths(text):
     return [path.decode("ascii") for path in paths[:200] if path.isascii()]
 
 
-def input_faults(name, text, asked, folder, counts):
-    """What is wrong with the answers about an input."""
-    path = folder / "input.txt"
-    path.write_bytes(text)
-    refusal = refusal_of(asked, text)
+@pytest.fixture(params=INPUTS)
+def given(request, tmp_path, player):
+    """An input in a file, and its refusal."""
+    path = tmp_path / "input.txt"
+    path.write_bytes(INPUTS[request.param])
+    return path, refusal_of(player, INPUTS[request.param])
+
+
+def test_every_input(given):
+    path, refusal = given
+    due = 0 if refusal is None else 2
     status, out, messages = labask("check", path)
-    counts["accepted" if refusal is None else "refused"] += 1
-    if status != (0 if refusal is None else 2) or "Traceback" in messages:
-        yield f"{name}: check: status {status}: {out[-300:]}{messages[-300:]}"
-    if refusal is not None and (out.splitlines()[-1] != f"labsys: {refusal}" or "no fault was found" in out):
-        yield f"{name}: {refusal} is explained as {out[:300]}"
-    if refusal is not None and len(text) > MOST_BYTES:
-        return
-    status, out, messages = labask("who", path, *(first_paths(text) if refusal is None else ()))
-    if status != (0 if refusal is None else 2):
-        yield f"{name}: who: status {status}: {out[-300:]}{messages[-300:]}"
-
-
-def main():
-    asked, counts, faults = player(), {"accepted": 0, "refused": 0}, []
-    with tempfile.TemporaryDirectory() as name:
-        folder = pathlib.Path(name)
-        for path in EXAMPLES:
-            faults += input_faults(path.name, path.read_bytes(), asked, folder, counts)
-        for path, text in case_inputs():
-            faults += input_faults(path, text, asked, folder, counts)
-    report(f"inputs are answered, of which {counts['refused']} are refused", sum(counts.values()) - len(faults), faults)
-
-
-if __name__ == "__main__":
-    main()
+    assert status == due and "Traceback" not in messages
+    assert refusal is None or (out.splitlines()[-1] == f"labsys: {refusal}" and "no fault was found" not in out), out[:300]
+    if refusal is None or path.stat().st_size <= MOST_BYTES:
+        assert labask("who", path, *(first_paths(path.read_bytes()) if refusal is None else ()))[0] == due

@@ -1,20 +1,12 @@
-#!/usr/bin/env python3
-"""Compares what each question answers about the examples with the files of `expected/`, and tries exit statuses and `--json`.
+"""What each question answers about the examples, compared with the files of `expected/`; exit statuses, `--json` and `--help`.
 
-    test_expected.py            fails where an answer differs
-    test_expected.py --write    writes the answers anew
-
-The file `expected/QUESTION/NAME.out` has the answer about `examples/NAME.txt`.
+The file `expected/QUESTION/NAME.out` has the answer about `examples/NAME.txt`; `pytest --write` writes it anew.
 """
-import difflib
 import json
-import os
-import pathlib
 import re
-import sys
-import tempfile
 
-from support import EXAMPLES, HERE, TOP, labask, report
+import pytest
+from support import EXAMPLES, HERE, TOP, labask
 
 from labask import main as labask_main
 
@@ -26,96 +18,77 @@ FLOWS = {
     "read_by_capability": ("/a", "1@unc"), "relabelling": ("/in/note", "1@public"), "utilities": ("/bin/login", "1@public"),
 }
 CUTS = {"backup_for_all": 6, "lesson": 3, "login": 3, "owners_and_modes": 2, "read_by_capability": 1, "relabelling": 2}
+LESSON = TOP / "examples" / "lesson.txt"
+REFUSED = "world 2\nlevels a\ncategories\nbound all\ndir / 0755 0 0 a\ndir /b 0755 0 0 c\nscript\n"
+REFUSAL = ':6: LABEL "c": unknown level c; levels are a'
+pytestmark = pytest.mark.usefixtures("program")
 
 
 def questions(name):
-    """The command lines about an example, by the questions."""
+    """The command lines about an example."""
     path = f"examples/{name}.txt"
-    yield "check", ("check", path)
-    yield "who", ("who", path)
-    yield "why", ("why", path)
+    yield from ((question, path) for question in ("check", "who", "why"))
     if name in FLOWS:
-        yield "flow", ("flow", path, *FLOWS[name])
+        yield ("flow", path, *FLOWS[name])
     if name in CUTS:
-        yield "cuts", ("cuts", path, CUTS[name])
+        yield ("cuts", path, CUTS[name])
 
 
-def answers():
-    """The answers with the files that have them, and their exit statuses."""
-    os.chdir(TOP)
-    for path in EXAMPLES:
-        for question, words in questions(path.stem):
-            status, out, messages = labask(*words)
-            yield EXPECTED / question / f"{path.stem}.out", words, status, out + messages
+def expected_of(words):
+    """The file with the answer to a command line about an example."""
+    return EXPECTED / words[0] / f"{(TOP / words[1]).stem}.out"
 
 
-def difference(path, out):
-    """The first lines in which an answer differs from its file."""
-    there = path.read_text(encoding="utf-8").split("\n") if path.exists() else []
-    return "\n    ".join(list(difflib.unified_diff(there, out.split("\n"), "expected", "answered", "", "", 1, ""))[:12])
+QUESTIONS = [words for path in EXAMPLES for words in questions(path.stem)]
 
 
-def json_faults():
-    """Questions whose answer with --json is no JSON, or is none with status 0."""
-    for path in EXAMPLES:
-        for question, words in questions(path.stem):
-            status, out, _ = labask(*words, "--json")
-            try:
-                good = status == 0 and isinstance(json.loads(out), dict)
-            except ValueError:
-                good = False
-            if not good:
-                yield f"{words} --json: status {status}: {out[:200]}"
+@pytest.mark.parametrize("words", QUESTIONS, ids=lambda words: f"{words[0]}-{(TOP / words[1]).stem}")
+def test_answers(words, write, monkeypatch):
+    monkeypatch.chdir(TOP)
+    status, out, messages = labask(*words)
+    path = expected_of(words)
+    assert status == 0, out + messages
+    if write:
+        path.parent.mkdir(parents=True, exist_ok=True)
+        path.write_text(out + messages, encoding="utf-8")
+    assert out + messages == path.read_text(encoding="utf-8")
 
 
-def status_faults(folder):
-    """Command lines with another exit status than they should have."""
-    refused = folder / "refused.txt"
-    refused.write_text("world 2\nlevels a\ncategories\nbound all\ndir / 0755 0 0 a\ndir /b 0755 0 0 c\nscript\n")
-    good, said = TOP / "examples" / "lesson.txt", f"{refused}:6: LABEL \"c\": unknown level c; levels are a"
-    due = [(0, ("check", good)), (1, ()), (1, ("what",)), (1, ("check",)), (1, ("check", folder / "none")),
-           (1, ("who", good, "/none")),
-           (1, ("who", good, "--process", "9@public")), (1, ("why", good, 99)), (1, ("flow", good, "/exam", "1@public")),
-           (1, ("flow", good, "/exam/marks", "/exam")), (1, ("flow", good, "/exam/marks", "/exam/marks")), (1, ("cuts", good, 2)),
-           (70, ("check", good, "--labsys", folder / "none")), (70, ("--labsys", folder / "none", "who", good))]
-    due += [(2, words) for words in (("check", refused), ("who", refused), ("why", refused), ("flow", refused, "/b", "/c"),
-                                     ("cuts", refused, 1))]
-    for status, words in due:
-        got, out, messages = labask(*words)
-        if got != status or (status in (1, 70) and (out or not messages)) or (status == 2 and said not in out + messages):
-            yield f"{[str(word) for word in words]}: status {got}, not {status}: {out}{messages}"
+def test_no_other_answers_are_expected():
+    assert set(EXPECTED.glob("*/*.out")) == set(map(expected_of, QUESTIONS))
 
 
-def help_faults():
-    """Questions without help, and those that it does not name."""
-    _, whole, _ = labask("--help")
-    for name in labask_main.QUESTIONS:
-        if not re.search(rf"^    {name} ", whole, re.M):
-            yield f"--help does not name {name}"
-    for name in ("check", "who", "why", "flow", "cuts"):
-        status, out, _ = labask(name, "--help")
-        if status != 0 or "FILE" not in out or "--json" not in out or "--labsys" not in out:
-            yield f"{name} --help: {status}"
+@pytest.mark.parametrize("words", QUESTIONS, ids=lambda words: f"{words[0]}-{(TOP / words[1]).stem}")
+def test_json(words, monkeypatch):
+    monkeypatch.chdir(TOP)
+    status, out, _ = labask(*words, "--json")
+    assert status == 0 and isinstance(json.loads(out), dict)
 
 
-def main():
-    write, faults, count, due = "--write" in sys.argv[1:], [], 0, set()
-    for path, words, status, out in answers():
-        due.add(path)
-        if status != 0:
-            faults.append(f"{words}: status {status}: {out}")
-        elif write:
-            path.parent.mkdir(parents=True, exist_ok=True)
-            path.write_text(out, encoding="utf-8")
-        elif difference(path, out):
-            faults.append(f"{path.relative_to(HERE)}\n    {difference(path, out)}")
-        else:
-            count += 1
-    faults += [f"{path.relative_to(HERE)} is no answer" for path in set(EXPECTED.glob("*/*.out")) - due]
-    with tempfile.TemporaryDirectory() as name:
-        faults += [*json_faults(), *status_faults(pathlib.Path(name)), *help_faults()]
-    report("answers about the examples are as expected, beside JSON, exit statuses and help", count, faults)
+@pytest.mark.parametrize("status, words", [
+    (0, ("check", LESSON)), (1, ()), (1, ("what",)), (1, ("check",)), (1, ("check", "/none")), (1, ("who", LESSON, "/none")),
+    (1, ("who", LESSON, "--process", "9@public")), (1, ("why", LESSON, 99)), (1, ("flow", LESSON, "/exam", "1@public")),
+    (1, ("flow", LESSON, "/exam/marks", "/exam")), (1, ("flow", LESSON, "/exam/marks", "/exam/marks")), (1, ("cuts", LESSON, 2)),
+    (70, ("check", LESSON, "--labsys", "/none")), (70, ("--labsys", "/none", "who", LESSON)),
+], ids=str)
+def test_statuses(status, words):
+    """The exit status; where there is no answer, there is a message and no output."""
+    got, out, messages = labask(*words)
+    assert got == status
+    assert status == 0 or (messages and not out)
 
 
-if __name__ == "__main__":
-    main()
+@pytest.mark.parametrize("question, words", [("check", ()), ("who", ()), ("why", ()), ("flow", ("/b", "/c")), ("cuts", (1,))])
+def test_refused(question, words, tmp_path):
+    path = tmp_path / "refused.txt"
+    path.write_text(REFUSED)
+    status, out, messages = labask(question, path, *words)
+    assert status == 2 and f"{path}{REFUSAL}" in out + messages
+
+
+@pytest.mark.parametrize("name", labask_main.QUESTIONS)
+def test_help(name):
+    """The help names each question, and that of a question its options."""
+    assert re.search(rf"^    {name} ", labask("--help")[1], re.M)
+    status, out, _ = labask(name, "--help")
+    assert status == 0 and "--json" in out and "--labsys" in out

@@ -1,28 +1,26 @@
-#!/usr/bin/env python3
-"""The question `trace`: programs are traced, and their logs played on the world of the same tree with all labels the lowest.
+"""`trace`: programs are traced, and their logs played on the world of the same tree with all labels the lowest.
 
 Each call that the script plays has the reply that Linux gave, but for known differences, and in the end the world has what the
-tree has. The logs that are kept beside the test are played too, also where strace is not there; `test_trace.py --record` records
-them anew.
+tree has. The logs that are kept beside the test are played too, also where strace is not there; `pytest --record` records them anew.
 """
-import collections
 import json
 import os
 import pathlib
 import shutil
 import stat
 import subprocess
-import sys
 import tarfile
-import tempfile
 
-from system import HERE, PLAIN, USER, as_user, give, labask, own_ids, play, strace
+import pytest
+from support import HERE
+from system import PLAIN, USER, as_user, give, labask, own_ids, play, strace
 
 from labask.strace.comparing import Verdict, known_texts
 from labask.worlds import path_word, read_world, split_words
 
 LOGS = HERE / "logs"
 KEPT = pathlib.Path("/srv/site")
+KINDS = {stat.S_IFDIR: "dir", stat.S_IFREG: "file", stat.S_IFIFO: "fifo"}
 PERL = r"""
 $SIG{TERM} = 'DEFAULT'; umask 027;
 open(my $f, '+>', 'dst/new') or die; syswrite($f, "one two"); sysseek($f, 4, 0); sysread($f, my $x, 10);
@@ -117,41 +115,27 @@ def compared(world, log, folder):
     return run, json.loads(labask("why", folder / "run", "--against", log, "--json")[0])
 
 
-def judge(name, run, found, due):
+def judge(run, found, due):
     """Fails where a reply differs from the log in what is not known, or where a call is lacking."""
     wrong = [each for each in found["calls"] if each["verdict"] in (Verdict.DENIED.value, Verdict.OTHER.value)]
-    if wrong:
-        raise AssertionError(f"{name}: {len(wrong)} replies differ: {json.dumps(wrong[:4], indent=1)}")
-    known = {each["text"] for each in found["calls"] if each["verdict"] == Verdict.KNOWN.value}
-    if not known <= set(known_texts()):
-        raise AssertionError(f"{name}: {known}")
-    there = {line.call for line in read_world(run).script}
-    lacking = set(due.split()) - there
-    if lacking:
-        raise AssertionError(f"{name}: no line plays {' '.join(sorted(lacking))}")
-    return collections.Counter(each["text"] or each["verdict"] for each in found["calls"])
+    assert not wrong, f"{len(wrong)} replies differ"
+    assert {each["text"] for each in found["calls"] if each["verdict"] == Verdict.KNOWN.value} <= set(known_texts())
+    assert set(due.split()) <= {line.call for line in read_world(run).script}, "calls that no line plays"
 
 
-def compare_end(name, run, tree):
+def compare_end(run, tree):
     """In the end each object of the tree is in the world, with its attributes and bytes."""
-    calls, due = [], []
-    for folder, names, files in os.walk(os.fsencode(tree)):
-        for each in sorted(names + files):
-            real = os.path.join(folder, each)
-            path, status = path_word(real[len(os.fsencode(tree)):]), os.lstat(real)
-            calls += [f"stat {path}", f"open {path} r", "read 0 65536", "close 0"]
-            due.append((real, status))
+    reals = [os.path.join(folder, each) for folder, names, files in os.walk(os.fsencode(tree)) for each in sorted(names + files)]
+    paths = [path_word(real[len(os.fsencode(tree)):]) for real in reals]
+    calls = [call for path in paths for call in (f"stat {path}", f"open {path} r", "read 0 65536", "close 0")]
     before = len(read_world(run).script)
     replies = [split_words(line)[0][2:] for line in play(run + b"".join(f"2@base {call}\n".encode() for call in calls))][before:]
-    for index, (real, status) in enumerate(due):
-        words = [word.text for word in replies[4 * index]]
-        kind = {stat.S_IFDIR: "dir", stat.S_IFREG: "file", stat.S_IFIFO: "fifo"}[stat.S_IFMT(status.st_mode)]
-        there = ["ok", kind, f"{status.st_mode & 0o6777:04o}", str(status.st_uid), str(status.st_gid)]
-        content = [status.st_nlink, real_bytes(real)] if kind == "file" else []
-        here = [int(words[6]), replies[4 * index + 2][1].value] if kind == "file" and words[0] == "ok" else []
-        if words[:5] != there or here != content:
-            raise AssertionError(f"{name}: at the end {real} is {words} {here}, not {there} {content}")
-    return len(due)
+    for real, found, read in zip(reals, replies[::4], replies[2::4]):
+        status, words = os.lstat(real), [word.text for word in found]
+        kind = KINDS[stat.S_IFMT(status.st_mode)]
+        assert words[:5] == ["ok", kind, f"{status.st_mode & 0o6777:04o}", str(status.st_uid), str(status.st_gid)], real
+        if kind == "file":
+            assert (int(words[6]), read[1].value) == (status.st_nlink, real_bytes(real)), real
 
 
 def real_bytes(real):
@@ -164,25 +148,6 @@ def real_bytes(real):
     return content
 
 
-def trace_live(program, counts):
-    """Traces each program in a tree of its own; gives how many objects were compared at the end."""
-    objects = 0
-    for name, (words, due) in SCENARIOS.items():
-        with tempfile.TemporaryDirectory(prefix="labask-") as folder_name:
-            folder = pathlib.Path(folder_name)
-            folder.chmod(0o755)
-            tree = folder / "tree"
-            tree.mkdir()
-            make_tree(tree, name)
-            world = write_world(tree)
-            record(program, words, tree, folder / "log", "-e", "abbrev=execve")
-            run, found = compared(world, folder / "log", folder)
-            counts += judge(name, run, found, due)
-            objects += compare_end(name, run, tree)
-            make_removable(tree)
-    return objects
-
-
 def make_removable(tree):
     """Lets a user without privilege remove the tree."""
     for folder, names, files in os.walk(tree):
@@ -190,45 +155,47 @@ def make_removable(tree):
             os.chmod(os.path.join(folder, name), 0o755)
 
 
-def trace_kept(counts):
-    """Plays the logs that are kept; gives their number."""
-    kept = sorted(LOGS.glob("*.log"))
-    for log in kept:
-        with tempfile.TemporaryDirectory(prefix="labask-") as folder:
-            run, found = compared(log.with_suffix(".txt").read_bytes(), log, pathlib.Path(folder))
-            counts += judge(log.name, run, found, SCENARIOS[log.stem][1])
-    return len(kept)
+@pytest.fixture(scope="module")
+def tracer(program, request):
+    """The path of strace. With --record the logs that are kept are recorded first."""
+    found = strace()
+    if found is None:
+        pytest.skip("there is no strace that may trace, which Debian has in its package strace")
+    if request.config.getoption("--record"):
+        record_all(found)
+    return found
 
 
-def record_all():
+@pytest.mark.parametrize("name", SCENARIOS)
+def test_traced_now(name, open_folder, tracer):
+    """A program is traced in a tree of its own."""
+    (words, due), tree = SCENARIOS[name], open_folder / "tree"
+    if shutil.which(words[0]) is None:
+        pytest.skip(f"there is no {words[0]}")
+    tree.mkdir()
+    make_tree(tree, name)
+    world = write_world(tree)
+    record(tracer, words, tree, open_folder / "log", "-e", "abbrev=execve")
+    run, found = compared(world, open_folder / "log", open_folder)
+    judge(run, found, due)
+    compare_end(run, tree)
+    make_removable(tree)
+
+
+@pytest.mark.parametrize("name", sorted(set(SCENARIOS) - set(UNKEPT)))
+def test_kept_log(name, tmp_path, program):
+    run, found = compared((LOGS / f"{name}.txt").read_bytes(), LOGS / f"{name}.log", tmp_path)
+    judge(run, found, SCENARIOS[name][1])
+
+
+def record_all(tracer):
     """Records the logs that are kept, of a tree at a path that says nothing of this system."""
-    program = strace()
     LOGS.mkdir(exist_ok=True)
-    for name, (words, _) in SCENARIOS.items():
-        if name in UNKEPT:
-            continue
+    for name in sorted(set(SCENARIOS) - set(UNKEPT)):
         shutil.rmtree(KEPT, ignore_errors=True)
         KEPT.mkdir(parents=True)
         make_tree(KEPT, name)
         (LOGS / f"{name}.txt").write_bytes(write_world(KEPT))
-        record(program, words, KEPT, LOGS / f"{name}.log", "-e", "trace=!" + ",".join(UNRECORDED))
+        record(tracer, SCENARIOS[name][0], KEPT, LOGS / f"{name}.log", "-e", "trace=!" + ",".join(UNRECORDED))
         (LOGS / f"{name}.log").chmod(0o644)
     shutil.rmtree(KEPT)
-
-
-def main():
-    if "--record" in sys.argv:
-        record_all()
-        return
-    counts = collections.Counter()
-    kept, program = trace_kept(counts), strace()
-    live = f"{len(SCENARIOS)} programs traced" if program else "tracing skipped: there is no strace that may trace, which Debian has in its package strace"
-    objects = trace_live(program, counts) if program else 0
-    known = sum(count for what, count in counts.items() if what != Verdict.SAME.value)
-    same = counts[Verdict.SAME.value]
-    print(f"{live}, {kept} kept logs: {same + known} calls played, {same} with the reply of the log, {known} known differences; "
-          f"{objects} objects compared at the end")
-
-
-if __name__ == "__main__":
-    main()

@@ -1,16 +1,14 @@
-#!/usr/bin/env python3
 """Logs written by hand: which lines of the script each call of a log becomes, and what is left out, in each form of a log."""
 import argparse
-import pathlib
-import random
 import re
-import tempfile
 
+import pytest
+from hypothesis import given, settings
+from strategies import damaged_logs
 from system import labask
 
 from labask import against
 from labask import tracing as trace
-from labask.playing import Player, find_program
 from labask.strace.log import Call, read_log
 from labask.strace.values import Argument, split_arguments
 from labask.worlds import read_world
@@ -107,16 +105,7 @@ LOG = [
     ('100 +++ exited with 0 +++', []),
 ]
 BROKEN = 150
-NUMBERS = (b"0", b"1", b"3", b"-1", b"100", b"101", b"07777", b"65537", b"4294967296", b"99999999999999999999", b"0x10")
-checked = 0
-
-
-def equal(here, due, what):
-    """Fails where two values differ."""
-    global checked
-    checked += 1
-    if here != due:
-        raise AssertionError(f"{what}: {here!r}, not {due!r}")
+pytestmark = pytest.mark.usefixtures("program")
 
 
 def traced(folder, lines, *options):
@@ -137,161 +126,163 @@ def traced(folder, lines, *options):
     return played, left_out, run.text
 
 
-def judge(lines, folder, what):
-    """Fails where a line of the log becomes other lines of the script than those that are due."""
-    played, left_out, _ = traced(folder, lines)
+def plain(line):
+    """A line of the log as it is."""
+    return line
+
+
+def timed(line):
+    """A line with times before the call and behind it."""
+    line = re.sub(r"^(\d+) ", r"\1 22:16:42.123456 ", line)
+    return line + " <0.000012>" if re.search(r"\) += [^(]*(\(.*\))?$", line) else line
+
+
+def bracketed(line):
+    """A line with the number of its process in brackets."""
+    return re.sub(r"^(\d+) ", r"[pid   \1] ", line)
+
+
+@pytest.mark.parametrize("form", (plain, timed, bracketed), ids=lambda form: form.__name__)
+def test_forms(form, tmp_path):
+    """Each line of the log becomes the lines of the script that are due, in each form of a log."""
+    played, left_out, _ = traced(tmp_path, [form(line) for line, _ in LOG])
     for number, (line, due) in enumerate(LOG, 1):
         found = played.get(number, []), left_out.get(number, "")
-        equal(found, (due, "") if isinstance(due, list) else ([], due), f"{what}: {line}")
+        assert found == ((due, "") if isinstance(due, list) else ([], due)), line
 
 
-def check_forms(folder):
-    """The forms of a log: as it is, with times before and after the calls, and with numbers of processes in brackets."""
-    lines = [line for line, due in LOG]
-    judge(lines, folder, "plain")
-    timed = [re.sub(r"^(\d+) ", r"\1 22:16:42.123456 ", line) for line in lines]
-    judge([line + " <0.000012>" if re.search(r"\) += [^(]*(\(.*\))?$", line) else line for line in timed], folder, "timed")
-    judge([re.sub(r"^(\d+) ", r"[pid   \1] ", line) for line in lines], folder, "bracketed")
-
-
-def check_alone(folder):
+def test_one_process(tmp_path):
     """A log of one process has no numbers."""
-    played, _, _ = traced(folder, ['mkdir("x", 0777)                  = 0', "+++ exited with 3 +++"])
-    equal(played, {1: ["1@base mkdir x 0777"], 2: ["1@base exit 3"]}, "one process")
+    played, _, _ = traced(tmp_path, ['mkdir("x", 0777)                  = 0', "+++ exited with 3 +++"])
+    assert played == {1: ["1@base mkdir x 0777"], 2: ["1@base exit 3"]}
 
 
-def check_terminal(folder):
+def test_terminal(tmp_path):
     """A log as it goes to a terminal: the first process has a number only beside others."""
     lines = ['getpid() = 100', 'fork( <unfinished ...>', 'strace: Process 101 attached', '[pid   101] getppid( <unfinished ...>',
              '[pid   100] <... fork resumed>) = 101', '[pid   101] <... getppid resumed>) = 100', '[pid   101] kill(100, 0) = 0',
              '[pid   100] exit_group(4) = ?', '[pid   100] +++ exited with 4 +++', 'mkdir("x", 0700) = 0', 'exit_group(0) = ?']
-    due = {1: ["1@base getpid"], 2: ["1@base fork"], 4: ["3@base getppid"], 7: ["3@base kill 1@base 0"], 8: ["1@base exit 4"],
-           10: ["3@base mkdir x 0700"], 11: ["3@base exit 0"]}
-    equal(traced(folder, lines)[0], due, "a terminal")
+    assert traced(tmp_path, lines)[0] == {
+        1: ["1@base getpid"], 2: ["1@base fork"], 4: ["3@base getppid"], 7: ["3@base kill 1@base 0"], 8: ["1@base exit 4"],
+        10: ["3@base mkdir x 0700"], 11: ["3@base exit 0"]}
 
 
-def check_summary(folder):
+def test_summary(tmp_path):
     """What is left out is counted at the end."""
-    _, left_out, text = traced(folder, [line for line, due in LOG])
+    _, left_out, text = traced(tmp_path, [line for line, due in LOG])
     for reason in set(left_out.values()):
         count = sum(reason == each for each in left_out.values())
-        equal(f"# {count} left out, {reason}\n".encode() in text, True, reason)
-    equal(b"# no call of the profile: fcntl 1, tgkill 1, ftruncate 1, readlink 1\n" in text, True, "names of calls")
-    equal(b"# 1 bytes that the log does not have are written as ?\n" in text, True, "bytes that are made up")
+        assert f"# {count} left out, {reason}\n".encode() in text
+    assert b"# no call of the profile: fcntl 1, tgkill 1, ftruncate 1, readlink 1\n" in text
+    assert b"# 1 bytes that the log does not have are written as ?\n" in text
 
 
-def check_options(folder):
-    """The process, its directory and its umask at the beginning, and the root of the world."""
-    line = '7 mkdir("x", 0777) = 0'
-    played, _, _ = traced(folder, [line], "--as", "2@base", "--umask", "077", "--start", "/srv/site/d")
-    equal(played, {0: ["2@base umask 0077", "2@base chdir /d"], 1: ["2@base mkdir x 0777"]}, "options")
-    played, left_out, _ = traced(folder, [line], "--start", "/srv/other")
-    equal((played, left_out), ({}, {1: "outside of the directory"}), "another directory")
-    played, _, _ = traced(folder, ['7 mkdir("/srv/other/x", 0777) = 0'], "--directory", "/srv/other")
-    equal(played, {1: ["1@base mkdir /x 0777"]}, "another root")
+MKDIR = '7 mkdir("x", 0777) = 0'
+
+
+def test_process_directory_and_umask(tmp_path):
+    """The process, its directory and its umask at the beginning."""
+    played, _, _ = traced(tmp_path, [MKDIR], "--as", "2@base", "--umask", "077", "--start", "/srv/site/d")
+    assert played == {0: ["2@base umask 0077", "2@base chdir /d"], 1: ["2@base mkdir x 0777"]}
+
+
+def test_beginning_elsewhere(tmp_path):
+    played, left_out, _ = traced(tmp_path, [MKDIR], "--start", "/srv/other")
+    assert (played, left_out) == ({}, {1: "outside of the directory"})
+
+
+def test_another_root(tmp_path):
+    played, _, _ = traced(tmp_path, ['7 mkdir("/srv/other/x", 0777) = 0'], "--directory", "/srv/other")
+    assert played == {1: ["1@base mkdir /x 0777"]}
+
+
+def test_directory_that_the_log_tells(tmp_path):
     opened = '7 openat(AT_FDCWD</srv/site/d>, "f", O_WRONLY|O_CREAT|O_APPEND, 0666) = 3</srv/site/d/f>'
     due = {0: ["1@base chdir /d"], 1: ["1@base mkdir x 0777"], 2: ["1@base open f wca 0666"]}
-    equal(traced(folder, [line, opened])[0], due, "the directory that the log tells")
+    assert traced(tmp_path, [MKDIR, opened])[0] == due
 
 
-def check_beginning(folder):
-    """A log that begins in a directory that no world has: calls with paths from the root are played, as everywhere."""
-    for start, why in ((f"/srv/site/{'n' * 64}", "the name has 64 bytes, and may have 63"),
-                       ("/srv/site/s/e", "/s is left out of the world")):
-        played, left_out, text = traced(folder, [f'7 openat(AT_FDCWD<{start}>, "f", O_RDONLY) = 3', '7 unlink("/srv/site/a") = 0'])
-        equal((played, left_out), ({2: ["1@base unlink /a"]}, dict.fromkeys((0, 1), "about what no world has")), start)
-        due = f"# 0, left out, about what no world has ({why}): the current directory at the beginning\n".encode()
-        equal(due in text, True, text)
-        equal(b"# 2 left out, about what no world has\n" in text, True, "what is left out is counted")
+@pytest.mark.parametrize("start, why", [
+    (f"/srv/site/{'n' * 64}", "the name has 64 bytes, and may have 63"), ("/srv/site/s/e", "/s is left out of the world"),
+], ids=["long", "left out"])
+def test_directory_that_no_world_has(start, why, tmp_path):
+    """Calls with paths from the root are played, as everywhere."""
+    lines = [f'7 openat(AT_FDCWD<{start}>, "f", O_RDONLY) = 3', '7 unlink("/srv/site/a") = 0']
+    played, left_out, text = traced(tmp_path, lines)
+    assert (played, left_out) == ({2: ["1@base unlink /a"]}, dict.fromkeys((0, 1), "about what no world has"))
+    assert f"# 0, left out, about what no world has ({why}): the current directory at the beginning\n".encode() in text
+    assert b"# 2 left out, about what no world has\n" in text, "what is left out is counted"
 
 
-def check_long_numbers(folder):
+@pytest.mark.parametrize("digits", ("9" * 5000, "0x" + "f" * 5000, "9" * 24), ids=lambda digits: digits[:4])
+def test_long_numbers(digits, tmp_path):
     """Numbers that no log has, in each place: no call is made of such a line, and the other lines are followed."""
-    for digits in ("9" * 5000, "0x" + "f" * 5000, "9" * 24):
-        lines = [f'7 umask({digits}) = 0', f'7 umask(0) = {digits}', f'{digits} umask(0) = 0', f'[pid {digits}] umask(0) = 0',
-                 f'7 openat({digits}</srv/site>, "a", O_RDONLY) = {digits}</srv/site/a>', f'7 lseek(3, {digits}*2, SEEK_SET) = 0',
-                 f'strace: Process {digits} attached', f'7 kill({digits}, SIGTERM) = 0', f'7 close({digits}) = 0',
-                 f'7 waitid(P_ALL, 0, {{si_signo=SIGCHLD, si_pid={digits}, si_status=0}}, WEXITED, NULL) = 0',
-                 f'7 +++ exited with {digits} +++', '7 mkdir("x", 0777) = 0']
-        played, _, _ = traced(folder, lines)
-        equal({line: due for line, due in played.items() if line != 10}, {12: ["1@base mkdir x 0777"]}, digits[:30])
-        labask("why", folder / "run", "--against", folder / "log")
+    lines = [f'7 umask({digits}) = 0', f'7 umask(0) = {digits}', f'{digits} umask(0) = 0', f'[pid {digits}] umask(0) = 0',
+             f'7 openat({digits}</srv/site>, "a", O_RDONLY) = {digits}</srv/site/a>', f'7 lseek(3, {digits}*2, SEEK_SET) = 0',
+             f'strace: Process {digits} attached', f'7 kill({digits}, SIGTERM) = 0', f'7 close({digits}) = 0',
+             f'7 waitid(P_ALL, 0, {{si_signo=SIGCHLD, si_pid={digits}, si_status=0}}, WEXITED, NULL) = 0',
+             f'7 +++ exited with {digits} +++', '7 mkdir("x", 0777) = 0']
+    played, _, _ = traced(tmp_path, lines)
+    played.pop(10, None)
+    assert played == {12: ["1@base mkdir x 0777"]}
+    labask("why", tmp_path / "run", "--against", tmp_path / "log")
+
+
+def test_more_bytes_than_there_may_be(tmp_path):
     open_line, many = '7 openat(AT_FDCWD</srv/site>, "a", O_RDWR) = 3</srv/site/a>', 99999999999999999999
     lines = [open_line, f'7 write(3</srv/site/a>, "a", {many}) = -1 EFAULT (Bad address)',
              f'7 sendfile(3</srv/site/a>, 0</dev/null>, NULL, {many}) = {many}']
-    due = dict.fromkeys((2, 3), "with what the profile's call does not have")
-    equal(traced(folder, lines)[1], due, "more bytes than there may be")
+    assert traced(tmp_path, lines)[1] == dict.fromkeys((2, 3), "with what the profile's call does not have")
 
 
-def check_faults(folder):
+@pytest.mark.parametrize("log, world, options, status", [
+    (MKDIR, WORLD, ("--as", "9@base"), 1), (MKDIR, WORLD, ("--umask", "8"), 1), ("nothing", WORLD, (), 1),
+    (MKDIR, WORLD.replace(b'# root "/srv/site"\n', b""), (), 1), (MKDIR, WORLD.replace(b"dir /d", b"dir d"), (), 2),
+], ids=["process", "umask", "log", "root", "world"])
+def test_faults(log, world, options, status, tmp_path):
     """Wrong command lines, and worlds that are refused."""
-    for options in (("--as", "9@base"), ("--umask", "8")):
-        labask("trace", folder / "world", folder / "log", *options, status=1)
-    (folder / "log").write_bytes(b"nothing\n")
-    labask("trace", folder / "world", folder / "log", status=1)
-    (folder / "world").write_bytes(WORLD.replace(b'# root "/srv/site"\n', b""))
-    labask("trace", folder / "world", folder / "log", status=1)
-    (folder / "log").write_bytes(b'7 mkdir("x", 0777) = 0\n')
-    (folder / "world").write_bytes(WORLD.replace(b"dir /d", b"dir d"))
-    labask("trace", folder / "world", folder / "log", status=2)
-    labask("trace", folder / "none", folder / "log", status=1)
+    (tmp_path / "world").write_bytes(world)
+    (tmp_path / "log").write_text(log + "\n")
+    labask("trace", tmp_path / "world", tmp_path / "log", *options, status=status)
 
 
-def broken(random, lines):
-    """The lines of a log, of which some are damaged: bytes are lost, added or turned, numbers or whole lines are others."""
-    lines = [line.encode("latin-1") for line in lines]
-    for _ in range(random.randrange(1, 40)):
-        index = random.randrange(len(lines))
-        line, at = lines[index], random.randrange(len(lines[index]) + 1)
-        lines[index] = random.choice((
-            lambda: line[:at], lambda: line[:at] + line[at + 5:], lambda: line[:at] + random.choice(lines)[:20] + line[at:],
-            lambda: line[:at] + bytes([random.randrange(11, 256)]) + line[at + 1:],
-            lambda: re.sub(rb"\d+", lambda digits: random.choice(NUMBERS), line, count=2), lambda: random.choice(lines)))()
-    return b"".join(line + b"\n" for line in lines)
+def test_missing_world(tmp_path):
+    (tmp_path / "log").write_text(MKDIR + "\n")
+    labask("trace", tmp_path / "none", tmp_path / "log", status=1)
 
 
-def check_broken(count):
+def test_damaged_logs(player):
     """Logs with damaged lines are followed to their ends, and what is written is played and compared."""
-    player, world = Player([find_program()]), read_world(WORLD)
-    options = argparse.Namespace(directory=None, tag=None, start=None, umask=None)
-    for seed in range(count):
-        log = read_log(broken(random.Random(seed), [line for line, due in LOG]))
+    world, options = read_world(WORLD), argparse.Namespace(directory=None, tag=None, start=None, umask=None)
+
+    @settings(max_examples=BROKEN)
+    @given(damaged_logs([line.encode("latin-1") for line, _ in LOG]))
+    def follow(text):
+        log = read_log(text)
         script = trace.trace(world, log, options, player)
         run = WORLD + b"".join(line + b"\n" for line in script.lines)
         found = against.compare_all(read_world(run), log, player.play_accepted(run).replies)
-        calls = sum(isinstance(event, Call) for event in log.events)
-        equal(script.played + sum(script.left_out.values()) >= calls and len(found) <= script.played, True, f"broken log {seed}")
+        assert script.played + sum(script.left_out.values()) >= sum(isinstance(event, Call) for event in log.events)
+        assert len(found) <= script.played
+
+    follow()
 
 
-def check_values():
+def test_arguments():
     """Readings of arguments."""
-    equal([each.written for each in split_arguments(b'3</a,b>, "x, \\"y", {a=1, b=[2, 3]}, 1<<3|4')],
-          [b"3</a,b>", b'"x, \\"y"', b"{a=1, b=[2, 3]}", b"1<<3|4"], "arguments")
-    equal(Argument(b'"\\1\\12\\1234\\x41\\n\\\\"...').string.value, b"\x01\n\x534A\n\\", "a string")
-    equal(Argument(b'"a"...').string.whole, False, "a string that was cut")
-    equal(Argument(b'"\\8\\9\\78"').string.value, b"89\x078", "digits that are not octal")
-    equal((Argument(b"8192*1024").number, Argument(b"-1").number, Argument(b"0x1f").number, Argument(b"022").number),
-          (8388608, -1, 31, 18), "numbers")
+    assert [each.written for each in split_arguments(b'3</a,b>, "x, \\"y", {a=1, b=[2, 3]}, 1<<3|4')] == \
+        [b"3</a,b>", b'"x, \\"y"', b"{a=1, b=[2, 3]}", b"1<<3|4"]
     handle = Argument(b"3</a\\74b\\76 (deleted)>").handle
-    equal((handle.number, handle.path), (3, b"/a<b>"), "a descriptor")
-    equal(Argument(b"S_IFREG|S_ISUID|0755").bits, 0o4755, "a mode")
+    assert (handle.number, handle.path) == (3, b"/a<b>")
+    assert Argument(b"S_IFREG|S_ISUID|0755").bits == 0o4755
 
 
-def main():
-    with tempfile.TemporaryDirectory(prefix="labask-") as name:
-        folder = pathlib.Path(name)
-        check_values()
-        check_forms(folder)
-        check_alone(folder)
-        check_terminal(folder)
-        check_summary(folder)
-        check_options(folder)
-        check_beginning(folder)
-        check_long_numbers(folder)
-        check_faults(folder)
-        check_broken(BROKEN)
-    print(f"{len(LOG)} lines of a log in 3 forms, {BROKEN} logs with broken lines; {checked} comparisons")
+def test_strings():
+    assert Argument(b'"\\1\\12\\1234\\x41\\n\\\\"...').string.value == b"\x01\n\x534A\n\\"
+    assert not Argument(b'"a"...').string.whole, "a string that was cut"
+    assert Argument(b'"\\8\\9\\78"').string.value == b"89\x078", "digits that are not octal"
 
 
-if __name__ == "__main__":
-    main()
+@pytest.mark.parametrize("text, number", [(b"8192*1024", 8388608), (b"-1", -1), (b"0x1f", 31), (b"022", 18)])
+def test_numbers(text, number):
+    assert Argument(text).number == number
