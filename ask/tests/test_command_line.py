@@ -139,10 +139,3 @@ def test_closed_descriptors(question, closed, status, said, tmp_path):
                           stderr=subprocess.PIPE, check=False)
     assert (done.returncode, done.stderr.decode()) == (status, f"labask: {said}\n" if said else "")
     assert bool(done.stdout) == (status == 0 and "1>" not in closed)
-
-
-@pytest.mark.parametrize("words", [("--version",), ("--labsys", "/none", "--version")], ids=str)
-def test_version(words):
-    """The version is that of the repository, and needs no program."""
-    due = (TOP / "docs" / "version.txt").read_text(encoding="ascii").replace("labsys", "labask")
-    assert labask(*words) == (0, due, "")

@@ -10,12 +10,12 @@ import sys
 from dataclasses import dataclass
 from typing import NoReturn, Optional, Sequence
 
+from labask import __version__
 from labask.answers import Status, WrongWords
 from labask.command_words import named
 from labask.playing import Player, PlayingFault, Refused, find_program
 from labask.programs import program_behind
 
-VERSION = "1.0.0"  # that of docs/version.txt, which is not installed
 
 
 @dataclass(frozen=True)
@@ -86,7 +86,7 @@ def make_parser() -> QuestionParser:
     parser = QuestionParser(prog="labask", epilog=ENDING, formatter_class=argparse.RawDescriptionHelpFormatter,
                             description="Answers questions about a world by playing calls with labsys.")
     add_program(parser, None)
-    parser.add_argument("--version", action="version", version=f"labask {VERSION}", help="print the version and end")
+    parser.add_argument("--version", action="version", version=f"labask {__version__}", help="print the version and end")
     questions = parser.add_subparsers(metavar="QUESTION", required=True)
     for name, question in QUESTIONS.items():
         made = questions.add_parser(name, help=question.help, description=question.help[0].upper() + question.help[1:] + ".")
