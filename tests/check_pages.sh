@@ -6,4 +6,5 @@ python3 tests/definitions.py --check || exit $?
 python3 tests/answers.py || exit $?
 python3 tests/differences.py || exit $?
 python3 tests/call_index.py --check || exit $?
+python3 tests/labask_profile.py --check || exit $?
 python3 tests/pages.py

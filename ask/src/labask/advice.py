@@ -8,13 +8,12 @@ from typing import Iterator, List, Sequence, Tuple
 
 from labask import elsewhere
 from labask.capability_texts import idle_lowerings, text_faults
-from labask.explaining import LISTS, shown, tag_message
-from labask.signatures import CALLS, LINES, UTILITIES, arguments_of
-from labask.worlds import MAX_LINE, Line, Word, World, quoted, split_words
+from labask.explaining import shown, tag_message
+from labask.kernel_profile import LISTS, MAX_LINE, STEPS
+from labask.signatures import CALLS, FORMS, LINES, arguments_of
+from labask.worlds import Line, Word, World, quoted, split_words
 
 WORLD_WORDS = ("world", *LISTS, "bound", *LINES, "script")
-PROGRAM_WORDS = ("slices", "rounds", "program", "do", "jump", "stop")
-KNOWN = (*CALLS, *UTILITIES)
 SIGNALS = {**dict.fromkeys(("SIGTERM", "term", "15", "-15"), "TERM"), **dict.fromkeys(("SIGKILL", "kill", "9", "-9"), "KILL")}
 SPACED = {"PATH": "a path with a space is quoted", "BYTES": "a content with a space is quoted",
           "CAPS": "a capability text of more than one clause is quoted"}
@@ -130,9 +129,9 @@ def groups_advice(line: Line) -> Iterator[Advice]:
 def call_in_world(line: Line) -> Iterator[Advice]:
     """A call before the line of `script`."""
     first = line.words[0]
-    if re.fullmatch(r"\d+@.*", first.text) or first.text in KNOWN:
+    if re.fullmatch(r"\d+@.*", first.text) or first.text in FORMS:
         yield on_words("word 1", [first], "a call, which stands after the line script")
-    elif first.text in PROGRAM_WORDS:
+    elif first.text in STEPS:
         yield on_words("word 1", [first], "a line of programs, which stands after the line script; labsys sched reads it")
 
 
@@ -161,7 +160,7 @@ def place_advice(world: World, line: Line) -> Iterator[Advice]:
     first = line.words[0]
     if first.text in WORLD_WORDS:
         yield on_words("word 1", [first], f"a line of the world, which stands before the line script, line {world.script_line}")
-    elif first.text in PROGRAM_WORDS:
+    elif first.text in STEPS:
         yield on_words("word 1", [first], "a line of programs, which labsys sched reads; a line of a script is TAG CALL ARGUMENTS")
 
 
@@ -170,11 +169,11 @@ def tag_advice(world: World, line: Line) -> Iterator[Advice]:
     first = line.words[0]
     if first.text.startswith("@"):
         yield on_words("word 1", [first], tag_message(first.text, world.policy), number_added(world, line, first))
-    if first.quoted or first.text not in KNOWN and first.text not in elsewhere.NAMES:
+    if first.quoted or first.text not in FORMS and first.text not in elsewhere.NAMES:
         return
     tag = world.processes[0].tag if world.processes else ""
     message = "the tag n@label is missing before the call"
-    if first.text in KNOWN:
+    if first.text in FORMS:
         yield on_words("word 1", [first], message, [f"{tag} ".encode("latin-1") + line.text.strip(b" ")] if tag else [])
     else:
         lines = encoded(elsewhere.lines_here(tag, first.text, line.words[1:])) if tag else []
@@ -195,12 +194,12 @@ def encoded(lines: Sequence[str]) -> List[bytes]:
 def call_advice(line: Line) -> Iterator[Advice]:
     """The name of a call or of a command elsewhere, or that of a call in capitals."""
     tag, call = line.words[0].written.decode("latin-1"), line.words[1]
-    if call.text in KNOWN or call.quoted:
+    if call.text in FORMS or call.quoted:
         return
     if call.text in elsewhere.NAMES:
         lines = encoded(elsewhere.lines_here(tag, call.text, line.words[2:])) if not line.malformed else []
         yield on_words("word 2", [call], f"no call or utility; {elsewhere.what_to_write(call.text)}", lines)
-    elif call.text.lower() in KNOWN:
+    elif call.text.lower() in FORMS:
         name = call.text.lower()
         yield on_words("word 2", [call], f"letter case counts; the call is {name}", [replaced(line, [call], name)])
 

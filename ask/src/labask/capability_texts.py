@@ -3,7 +3,7 @@ import re
 from dataclasses import dataclass
 from typing import Dict, FrozenSet, Iterator, List, Tuple
 
-from labask.signatures import CAPABILITIES
+from labask.kernel_profile import CAPABILITIES
 
 FLAGS = "eip"
 ACTION = re.compile(r"([=+-])([eip]*)")

@@ -6,9 +6,10 @@ from typing import Callable, Dict, Iterator, List, Optional, Sequence, Set, Tupl
 from labask.advice import advice_on, notes_on
 from labask.answers import write_json
 from labask.explaining import explain_line
-from labask.playing import Played, Player, Refusal, Refused, Reply
+from labask.kernel_profile import MAX_INPUT
 from labask.mending import stand_ins
-from labask.worlds import MAX_INPUT, World, read_file, read_world
+from labask.playing import Played, Player, Refusal, Refused, Reply
+from labask.worlds import World, read_file, read_world
 
 ACCEPTED, REFUSED = 0, 2
 WIDTH = 110

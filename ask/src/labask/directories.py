@@ -6,12 +6,10 @@ from dataclasses import dataclass
 from typing import Dict, Iterator, List, Optional, Tuple, Union
 
 from labask.file_caps import ATTRIBUTE, Sets, UnknownVersion, read_attribute
+from labask.kernel_profile import MAX_PATH, MAX_PATH_NAME, MAX_PATH_NAMES
 from labask.worlds import Kind, path_word
 
 # limits of the profile: bytes of a name and of a path, names in a path, bits of a mode
-NAME = 63
-PATH = 1023
-NAMES = 32
 MODE = 0o6777
 ACCESS_LISTS = ("system.posix_acl_access", "system.posix_acl_default")
 KINDS = {stat.S_IFDIR: Kind.DIRECTORY, stat.S_IFREG: Kind.FILE, stat.S_IFIFO: Kind.FIFO}
@@ -87,11 +85,11 @@ class Reading:
 def unfit_path(path: bytes) -> Optional[str]:
     """Why a path is none of the profile, or None."""
     names = [name for name in path.split(b"/") if name]
-    if any(len(name) > NAME for name in names):
-        return f"the name has {len(names[-1])} bytes, and may have {NAME}"
-    if len(names) > NAMES:
-        return f"the path has {len(names)} names, and may have {NAMES}"
-    return f"the path has {len(path)} bytes, and may have {PATH}" if len(path) > PATH else None
+    if any(len(name) > MAX_PATH_NAME for name in names):
+        return f"the name has {len(names[-1])} bytes, and may have {MAX_PATH_NAME}"
+    if len(names) > MAX_PATH_NAMES:
+        return f"the path has {len(names)} names, and may have {MAX_PATH_NAMES}"
+    return f"the path has {len(path)} bytes, and may have {MAX_PATH}" if len(path) > MAX_PATH else None
 
 
 def attribute_of(real: bytes, name: str) -> Optional[bytes]:

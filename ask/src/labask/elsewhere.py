@@ -2,7 +2,7 @@
 import re
 from typing import Dict, List, Optional, Sequence, Tuple
 
-from labask.signatures import CALLS, UTILITIES
+from labask.signatures import CALLS, FORMS
 from labask.worlds import Word
 
 # the same call by another name
@@ -86,7 +86,7 @@ def what_to_write(name: str) -> str:
     if name in REWRITTEN:
         return f"here it is {REWRITTEN[name][0]}"
     call = RENAMED[name]
-    return f"here it is {call} {({**CALLS, **UTILITIES})[call]}".rstrip()
+    return f"here it is {call} {FORMS[call]}".rstrip()
 
 
 def arguments_here(call: str, words: Sequence[Word]) -> List[str]:

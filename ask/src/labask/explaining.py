@@ -8,18 +8,13 @@ from dataclasses import dataclass
 from typing import Callable, Dict, Iterator, List, Optional, Sequence, Tuple
 
 from labask.capability_texts import TextFault, read_sets, text_faults
+from labask.kernel_profile import (ASKING, LISTS, MAX_FILE_BYTES, MAX_GROUPS, MAX_LINE, MAX_NUMBER, MAX_OBJECT_NUMBER, MAX_PATH,
+                                   MAX_PATH_NAME, MAX_PATH_NAMES, MAX_PROCESS_NUMBER, MAX_STATUS, OPEN_FLAGS)
 from labask.label_texts import NAME, label_faults, listed
 from labask.signatures import CALLS, CAPABILITIES, LINES, UTILITIES, arguments_of
-from labask.worlds import MAX_LINE, TAG_NUMBER, Line, Policy, Word, World, canonical_path, parent_path, quoted
+from labask.worlds import TAG_NUMBER, Line, Policy, Word, World, canonical_path, parent_path, quoted
 
-MAX_NUMBER = 4_294_967_295
-MAX_PATH, MAX_PATH_NAME, MAX_PATH_NAMES = 1_023, 63, 32
-MAX_GROUPS = 16
-MAX_PROCESS_NUMBER = 4_095
-LISTS = {"levels": (1, 16), "categories": (0, 64), "grades": (1, 16)}
-OPEN_FLAGS = "rwcxta"
-NUMBER_LIMITS = {"read": 65_536, "exit": 255}
-ASKING = ("cap_get_file", "cap_set_file", "cap_get_fd", "cap_set_fd", "cap_get_proc", "cap_set_proc", "getfcap", "setfcap")
+NUMBER_LIMITS = {"read": MAX_FILE_BYTES, "exit": MAX_STATUS}
 
 
 @dataclass(frozen=True)
@@ -265,7 +260,7 @@ def whole_findings(world: World, line: Line, words: Dict[str, Word]) -> Iterator
         yield from place_findings(world, line)
     elif not given_before(world, line):
         yield on_word("no_parent", "word 1", line.words[0], "the first object is the root /, and comes before every process")
-    most, what = (MAX_PROCESS_NUMBER, "processes") if of_process else (65_535, "objects")
+    most, what = (MAX_PROCESS_NUMBER, "processes") if of_process else (MAX_OBJECT_NUMBER, "objects")
     yield from crowd_findings(line, words["LABEL"], most, what)
 
 

@@ -4,12 +4,9 @@ import struct
 from dataclasses import dataclass
 from typing import Dict, FrozenSet, Iterable, List, Optional, Tuple
 
+from labask.kernel_profile import CAPABILITIES
+
 ATTRIBUTE = "security.capability"
-PROFILE = (
-    "cap_chown", "cap_dac_execute", "cap_dac_read_search", "cap_dac_write", "cap_fowner", "cap_fsetid", "cap_kill",
-    "cap_link_dir", "cap_setfcap", "cap_setgid", "cap_setuid", "cap_mac_downgrade", "cap_mac_read", "cap_mac_relabel_subj",
-    "cap_mac_upgrade", "cap_mac_write", "cap_audit_control", "cap_audit_write",
-)
 LINUX = (
     "cap_chown", "cap_dac_override", "cap_dac_read_search", "cap_fowner", "cap_fsetid", "cap_kill", "cap_setgid", "cap_setuid",
     "cap_setpcap", "cap_linux_immutable", "cap_net_bind_service", "cap_net_broadcast", "cap_net_admin", "cap_net_raw",
@@ -56,11 +53,11 @@ class Sets:
         """The canonical capability text."""
         held = {Flag.EFFECTIVE: self.effective, Flag.INHERITABLE: self.inheritable, Flag.PERMITTED: self.permitted}
         groups: Dict[str, List[str]] = {}
-        for name in PROFILE:
+        for name in CAPABILITIES:
             flags = "".join(flag.value for flag in Flag if name in held[flag])
             if flags:
                 groups.setdefault(flags, []).append(name)
-        clauses = (f"{'all' if len(names) == len(PROFILE) else ','.join(names)}={flags}" for flags, names in groups.items())
+        clauses = (f"{'all' if len(names) == len(CAPABILITIES) else ','.join(names)}={flags}" for flags, names in groups.items())
         return " ".join(clauses) or "="
 
 
@@ -78,14 +75,14 @@ def names_of(bits: int) -> List[str]:
 
 def profile_names(names: Iterable[str]) -> FrozenSet[str]:
     """The capabilities of the profile that stand for some of Linux."""
-    return frozenset(each for name in names for each in SPLIT.get(name, (name,)) if each in PROFILE)
+    return frozenset(each for name in names for each in SPLIT.get(name, (name,)) if each in CAPABILITIES)
 
 
 def sets_of(permitted: int, inheritable: int, effective: int) -> Sets:
     """Sets of the profile for three sets of Linux, as bits."""
     named = [names_of(bits) for bits in (permitted, inheritable, effective)]
     given = {name: None for name in names_of(permitted | inheritable | effective)}
-    left_out = tuple(name for name in given if name not in PROFILE and name not in SPLIT)
+    left_out = tuple(name for name in given if name not in CAPABILITIES and name not in SPLIT)
     return Sets(*map(profile_names, named), left_out, tuple(name for name in given if name in SPLIT))
 
 

@@ -3,10 +3,10 @@ import re
 from typing import Iterator, List
 
 from labask.capability_texts import TextFault
+from labask.kernel_profile import MAX_LABEL_NAME
 from labask.worlds import Policy
 
 NAME = re.compile(r"[A-Za-z][A-Za-z0-9_-]*")
-MAX_NAME = 31
 
 
 def name_fault(text: str, column: int) -> Iterator[TextFault]:
@@ -14,8 +14,8 @@ def name_fault(text: str, column: int) -> Iterator[TextFault]:
     found = NAME.match(text, column)
     if not found:
         yield TextFault(column, 1, False, f"the name of a label begins with a letter, and none is at byte {column}")
-    elif len(found[0]) > MAX_NAME:
-        yield TextFault(column, len(found[0]), False, f"a name has at most {MAX_NAME} bytes")
+    elif len(found[0]) > MAX_LABEL_NAME:
+        yield TextFault(column, len(found[0]), False, f"a name has at most {MAX_LABEL_NAME} bytes")
 
 
 def form_fault(text: str) -> Iterator[TextFault]:

@@ -17,7 +17,6 @@ from labask.playing import Player, PlayingFault, Refused, find_program
 from labask.programs import program_behind
 
 
-
 @dataclass(frozen=True)
 class Question:
     """A question: the name of its module, and one line of help."""

@@ -6,7 +6,8 @@ import difflib
 import re
 from typing import Iterator, Optional, Sequence
 
-from labask.explaining import LISTS, due_keywords, given_before, path_fault
+from labask.explaining import due_keywords, given_before, path_fault
+from labask.kernel_profile import LISTS, MAX_LABEL_NAME
 from labask.label_texts import NAME, label_faults
 from labask.signatures import LINES
 from labask.worlds import Line, World, canonical_path, parent_path, path_word
@@ -25,7 +26,7 @@ def head_stand_ins(line: Line, due: Sequence[str]) -> Iterator[bytes]:
     keyword = difflib.get_close_matches(first, due, 1, 0.0)[0]
     if keyword in LISTS:
         names = dict.fromkeys(NAME.findall(line.text.partition(b" ")[2].decode("latin-1")))
-        names = [name for name in names if len(name) <= 31][:LISTS[keyword][1]]
+        names = [name for name in names if len(name) <= MAX_LABEL_NAME][:LISTS[keyword].most]
         yield " ".join([keyword, *names]).encode("ascii")
         yield f"{keyword} base".encode("ascii")
     else:

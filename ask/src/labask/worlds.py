@@ -12,11 +12,11 @@ from dataclasses import dataclass, field
 from functools import cached_property
 from typing import Callable, Dict, Iterable, Iterator, List, Mapping, NamedTuple, Optional, Sequence, Tuple
 
-MAX_INPUT = 16_777_216
-MAX_LINE = 2_048
+from labask.kernel_profile import MAX_INPUT as MAX_INPUT
+from labask.kernel_profile import MAX_LINE as MAX_LINE
+from labask.kernel_profile import UTILITIES as UTILITIES
+
 TAG_NUMBER = re.compile(r"[0-9]{1,10}")
-UTILITIES = {"getfcap": ("cap_get_file", 0), "setfcap": ("cap_set_file", 1), "getfmac": ("mac_get_file", 0),
-             "setfmac": ("mac_set_file", 1)}
 
 
 class WordFault(enum.Enum):
