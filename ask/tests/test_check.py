@@ -34,6 +34,8 @@ COMMENT = "a comment is a line of its own"
 OF_WORLD = "a line of the world, which stands before the line script, line 9"
 OF_PROGRAMS = "a line of programs, which labsys sched reads"
 SPACED = "with a space is quoted"
+NO_NUMBER = "the number is missing before the label; expected n@label"
+LABEL_FORM = "a label is a level, a colon and categories with commas, without spaces"
 # usual slips: a line of a world or of a script, a part of the message, what is marked, and the lines to write
 SLIPS = [
     ("script", "open /a r", NO_TAG, "open", [f"{TAG} open /a r"]),
@@ -72,8 +74,7 @@ SLIPS = [
      [f"{TAG} cap_set_proc cap_kill,cap_chown=p"]),
     ("world", 'proc public 0 0 2, 3 "="', "groups have commas between them, without spaces", "2, 3", ['proc public 0 0 2,3 "="']),
     ("world", 'proc public 0 0 2 3 4 "="', "groups have commas between them", "2 3 4", ['proc public 0 0 2,3,4 "="']),
-    ("world", 'proc secret:eng, legal 0 0 - "="', "a list has commas without spaces", "secret:eng,",
-     ['proc secret:eng,legal 0 0 - "="']),
+    ("world", 'proc secret:eng, legal 0 0 - "="', LABEL_FORM, "secret:eng, legal", ['proc secret:eng,legal 0 0 - "="']),
     ("world", '"file" /a 0644 0 0 public "x"', "a keyword is not quoted", '"file"', ['file /a 0644 0 0 public "x"']),
     ("script", f'"{TAG}" getpid', "a tag is not quoted", f'"{TAG}"', [f"{TAG} getpid"]),
     ("script", f'{TAG} "getpid"', "the word of a call is not quoted", '"getpid"', [f"{TAG} getpid"]),
@@ -89,6 +90,42 @@ SLIPS = [
     ("script", f"{TAG} cap_set_proc cap-kill=p", "unknown capability cap-kill; the name is cap_kill", "cap-kill", []),
     ("world", 'proc public 0 0 - "cap_dac-read-search=p"', "the name is cap_dac_read_search", "cap_dac-read-search", []),
     ("script", f"{TAG} OPEN /a r", "letter case counts; the call is open", "OPEN", [f"{TAG} open /a r"]),
+    ("script", "secret:eng getpid", NO_NUMBER, "secret:eng", [f"{TAG} getpid"]),
+    ("script", f"{TAG} kill secret:eng 0", NO_NUMBER, "secret:eng", [f"{TAG} kill {TAG} 0"]),
+    ("script", f"{TAG} kill secret 0", NO_NUMBER, "secret", []),
+    ("script", "1 getpid", "the label is missing behind the number", "1", [f"{TAG} getpid"]),
+    ("script", f"{TAG} kill 1 TERM", "the label is missing behind the number", "1", [f"{TAG} kill {TAG} TERM"]),
+    ("script", f"{TAG}: getpid", "no colon stands behind it", f"{TAG}:", [f"{TAG} getpid"]),
+    ("script", f"{TAG} open /a r# read it", COMMENT, "# read it", ["# read it", f"{TAG} open /a r"]),
+    ("script", f"{TAG} getpid;", "a line ends without a semicolon", ";", [f"{TAG} getpid"]),
+    ("script", f"{TAG} do getpid", "do stands in programs", "do", [f"{TAG} getpid"]),
+    ("script", f"{TAG} write 0 hello, world", f"a content {SPACED}", "hello, world", [f'{TAG} write 0 "hello, world"']),
+    ("script", f"{TAG} read 0, 5", "words have spaces between them, and no commas", "0,", [f"{TAG} read 0 5"]),
+    ("script", f"{TAG} mkdir -p /a 0755", "a call has no options", "-p", [f"{TAG} mkdir /a 0755"]),
+    ("script", f"{TAG} chmod 0644 /a", "the path comes first; the line is chmod PATH MODE", "/a", [f"{TAG} chmod /a 0644"]),
+    ("script", f"{TAG} chmod u+x /a", "the path comes first", "/a", []),
+    ("script", f"{TAG} chown 5:6 /a", "the path comes first; the line is chown PATH UID GID", "/a", [f"{TAG} chown /a 5 6"]),
+    ("script", f"{TAG} chown /a 5:6", "a user and a group are two words", "5:6", [f"{TAG} chown /a 5 6"]),
+    ("script", f"{TAG} mac_set_file secret /a", "the path comes first", "/a", [f"{TAG} mac_set_file /a secret"]),
+    ("script", f"{TAG} setfcap /a cap_kill=p", "the paths come last; the line is setfcap CAPS PATH ...", "/a",
+     [f"{TAG} setfcap cap_kill=p /a"]),
+    ("script", f"{TAG} setfmac /a secret", "the paths come last", "/a", [f"{TAG} setfmac secret /a"]),
+    ("script", f"{TAG} open /a r w", "flags are one word, without spaces", "r w", [f"{TAG} open /a rw"]),
+    ("script", f"{TAG} open /a cw 0600", "letters in the order rwcxta", "cw", [f"{TAG} open /a wc 0600"]),
+    ("script", f"{TAG} kill -TERM {TAG}", "the number of the process comes before the signal", "-TERM", [f"{TAG} kill {TAG} TERM"]),
+    ("script", f"{TAG} lseek 0 SEEK_SET 0", "it is written set here", "SEEK_SET", [f"{TAG} lseek 0 set 0"]),
+    ("script", f"{TAG} aud_switch ON", "it is written on here", "ON", [f"{TAG} aud_switch on"]),
+    ("script", f"{TAG} exec /a b c", "a program has no arguments here", "b c", [f"{TAG} exec /a"]),
+    ("script", f"{TAG} mac_set_proc secret eng", LABEL_FORM, "secret eng", [f"{TAG} mac_set_proc secret:eng"]),
+    ("world", "dir /a 0755 0 0 secret eng", LABEL_FORM, "secret eng", ["dir /a 0755 0 0 secret:eng"]),
+    ("world", "dir /a 0755 0 0 secret:eng:legal", LABEL_FORM, "secret:eng:legal", ["dir /a 0755 0 0 secret:eng,legal"]),
+    ("world", 'proc secret eng 0 0 - "="', LABEL_FORM, "secret eng", ['proc secret:eng 0 0 - "="']),
+    ("world", "dir /a 0755 root root public", "that of root is 0", "root", ["dir /a 0755 0 0 public"]),
+    ("world", "dir /a 0755 0:0 public", "a user and a group are two words", "0:0", ["dir /a 0755 0 0 public"]),
+    ("world", "file /a 0644 0 0 public", "is the content of an empty file", "", ['file /a 0644 0 0 public ""']),
+    ("world", 'proc public 0 0 "="', "GROUPS is missing before CAPS; - stands for none", '"="', ['proc public 0 0 - "="']),
+    ("world", 'PROC public 0 0 - "="', "letter case counts; it is proc", "PROC", ['proc public 0 0 - "="']),
+    ("world", "dir: /a 0755 0 0 public", "a keyword has no colon; it is dir", "dir:", ["dir /a 0755 0 0 public"]),
 ]
 # names elsewhere with arguments, a part of the message, and the calls to write
 ELSEWHERE = [

@@ -2,6 +2,7 @@
 import re
 from typing import Dict, List, Optional, Sequence, Tuple
 
+from labask.kernel_profile import OPEN_FLAGS
 from labask.signatures import CALLS, FORMS
 from labask.worlds import Word
 
@@ -76,7 +77,7 @@ def open_letters(text: str) -> Optional[str]:
     names = text.split("|")
     if not all(name in FLAG_LETTERS for name in names):
         return None
-    return "".join(sorted(set("".join(FLAG_LETTERS[name] for name in names)), key="rwcxta".index))
+    return "".join(sorted(set("".join(FLAG_LETTERS[name] for name in names)), key=OPEN_FLAGS.index))
 
 
 def what_to_write(name: str) -> str:
