@@ -1,5 +1,5 @@
 #!/bin/sh
-# The checks that need no program: pages against sources, and how labels are built. They take some seconds.
+# The checks that need no program: pages against sources, how labels are built, and the types of `labask`. They take some seconds.
 cd "$(dirname "$0")/.." || exit 1
 tests/labels_are_closed.sh || exit $?
 python3 tests/definitions.py --check || exit $?
@@ -7,4 +7,5 @@ python3 tests/answers.py || exit $?
 python3 tests/differences.py || exit $?
 python3 tests/call_index.py --check || exit $?
 python3 tests/labask_profile.py --check || exit $?
+tests/check_types.sh || exit $?
 python3 tests/pages.py

@@ -44,6 +44,11 @@ def clauses_of(text: str) -> Iterator[Tuple[int, str]]:
     return ((found.start(), found[0]) for found in re.finditer(r"[^ \t]+", text))
 
 
+def names_of(clause: str) -> str:
+    """What stands before the first action of a clause: names with commas between them, or nothing."""
+    return re.split("[=+-]", clause, maxsplit=1)[0]
+
+
 def named(listed: str) -> FrozenSet[str]:
     """The capabilities of a list; one without names stands for all."""
     names = listed.lower().split(",")
@@ -60,7 +65,7 @@ def read_sets(text: str) -> Sets:
     """The sets of a capability text that `labsys` accepts."""
     held: Dict[str, FrozenSet[str]] = {flag: frozenset() for flag in FLAGS}
     for _, clause in clauses_of(text):
-        listed = re.match(r"[^=+-]*", clause)[0]
+        listed = names_of(clause)
         for operator, flags in ACTION.findall(clause[len(listed):]):
             act(held, named(listed), operator, flags)
     return Sets(*(held[flag] for flag in FLAGS))
@@ -70,7 +75,7 @@ def idle_lowerings(text: str) -> Iterator[TextFault]:
     """The actions of a capability text that `labsys` accepts which lower what no action before them has raised."""
     held: Dict[str, FrozenSet[str]] = {flag: frozenset() for flag in FLAGS}
     for column, clause in clauses_of(text):
-        listed = re.match(r"[^=+-]*", clause)[0]
+        listed = names_of(clause)
         names = named(listed)
         for action in ACTION.finditer(clause, len(listed)):
             if action[1] == "-" and not any(held[flag] & names for flag in action[2]):
@@ -121,7 +126,7 @@ def text_faults(text: str) -> Iterator[TextFault]:
     if not clauses:
         yield TextFault(0, max(1, len(text)), False, "a capability text is not empty; that of empty sets is =")
     for column, clause in clauses:
-        listed = re.match(r"[^=+-]*", clause)[0]
+        listed = names_of(clause)
         yield from hyphen_faults(clause, column)
         yield from name_faults(listed, column)
         yield from action_faults(clause[len(listed):], column + len(listed), bool(listed))

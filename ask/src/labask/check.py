@@ -1,7 +1,7 @@
 """The question `check`: whether `labsys` accepts a file, and what is wrong with a line that it has refused."""
 import argparse
 from dataclasses import dataclass
-from typing import Callable, Dict, Iterator, List, Optional, Sequence, Set, Tuple
+from typing import Any, Callable, Dict, Iterator, List, Optional, Sequence, Set, Tuple
 
 from labask.advice import advice_on, notes_on
 from labask.answers import write_json
@@ -155,18 +155,20 @@ def go_on(text: bytes, refusal: Refusal, instead: Sequence[bytes], judge: Judge)
 
 def every_fault(text: bytes, first: Refusal, player: Player, judge: Judge) -> Faults:
     """The lines of a text that `judge` refuses, from the first on."""
-    faults, refusal = Faults([]), first
-    while len(faults.found) < MOST_FAULTS:
+    faults = Faults([])
+    refusal: Optional[Refusal] = first
+    while refusal and len(faults.found) < MOST_FAULTS:
         found = explanation(text, refusal, player)
         faults.found.append((refusal, found))
         following = go_on(text, refusal, found.instead, judge)
         if following is None:
             return faults
         text, refusal = following
-        if refusal is None:
-            faults.whole = True
-            return faults
+    faults.whole = refusal is None
     return faults
+
+
+Record = Dict[str, Any]
 
 
 @dataclass(frozen=True)
@@ -184,16 +186,16 @@ class NoProcess:
         return f"{name}:{self.line}: ESRCH: {self.missing} is no living process; those of {label} are: {there}"
 
 
-def process_changes(records: List[Dict[str, object]]) -> Dict[int, List[Dict[str, object]]]:
+def process_changes(records: List[Record]) -> Dict[int, List[Record]]:
     """The records of starts, forks and ends by the numbers of their calls."""
-    changes: Dict[int, List[Dict[str, object]]] = {}
+    changes: Dict[int, List[Record]] = {}
     for record in records:
         if record["event"] in ("boot", "fork", "exit"):
             changes.setdefault(int(record["call"]), []).append(record)
     return changes
 
 
-def apply_change(living: Set[str], record: Dict[str, object]) -> None:
+def apply_change(living: Set[str], record: Record) -> None:
     """Changes the numbers of living processes as a record says."""
     if record["event"] == "exit":
         living.discard(str(record["pid"]))

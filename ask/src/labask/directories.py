@@ -140,7 +140,8 @@ def are(count: int) -> str:
 def read_object(reading: Reading, path: bytes, status: os.stat_result) -> Iterator[Found]:
     """An object with what is left out of it."""
     kind = KINDS[stat.S_IFMT(status.st_mode)]
-    caps, content, notes = None, b"", []
+    caps, content = None, b""
+    notes: List[Note] = []
     if kind is Kind.FILE:
         caps, notes = read_caps(reading, path)
         content, more = read_content(reading, path, status.st_size)

@@ -80,10 +80,10 @@ def profile_names(names: Iterable[str]) -> FrozenSet[str]:
 
 def sets_of(permitted: int, inheritable: int, effective: int) -> Sets:
     """Sets of the profile for three sets of Linux, as bits."""
-    named = [names_of(bits) for bits in (permitted, inheritable, effective)]
-    given = {name: None for name in names_of(permitted | inheritable | effective)}
-    left_out = tuple(name for name in given if name not in CAPABILITIES and name not in SPLIT)
-    return Sets(*map(profile_names, named), left_out, tuple(name for name in given if name in SPLIT))
+    given = names_of(permitted | inheritable | effective)
+    return Sets(profile_names(names_of(permitted)), profile_names(names_of(inheritable)), profile_names(names_of(effective)),
+                left_out=tuple(name for name in given if name not in CAPABILITIES and name not in SPLIT),
+                split=tuple(name for name in given if name in SPLIT))
 
 
 def read_attribute(value: bytes) -> Attribute:

@@ -1,41 +1,45 @@
 """Label texts: where a text is no text of a label of a policy."""
 import re
-from typing import Iterator, List
+from typing import Iterator, List, Optional, Sequence
 
 from labask.capability_texts import TextFault
 from labask.kernel_profile import MAX_LABEL_NAME
 from labask.worlds import Policy
 
 NAME = re.compile(r"[A-Za-z][A-Za-z0-9_-]*")
+# what may stand behind a name, by what stands before it
+FOLLOWING = {"": ":/", ":": ",/", ",": ",/", "/": ""}
 
 
-def name_fault(text: str, column: int) -> Iterator[TextFault]:
-    """What is wrong with the name that begins at a column."""
-    found = NAME.match(text, column)
-    if not found:
-        yield TextFault(column, 1, False, f"the name of a label begins with a letter, and none is at byte {column}")
-    elif len(found[0]) > MAX_LABEL_NAME:
-        yield TextFault(column, len(found[0]), False, f"a name has at most {MAX_LABEL_NAME} bytes")
+def name_fault(name: str, column: int) -> Optional[TextFault]:
+    """What is wrong with the name at a column, which is empty where none begins there."""
+    if not name:
+        return TextFault(column, 1, False, f"the name of a label begins with a letter, and none is at byte {column}")
+    if len(name) > MAX_LABEL_NAME:
+        return TextFault(column, len(name), False, f"a name has at most {MAX_LABEL_NAME} bytes")
+    return None
+
+
+def fault_of_form(text: str) -> Optional[TextFault]:
+    """The first place at which a text has not the form level:category,category/grade; None where it has."""
+    column, before = 0, ""
+    while True:
+        found = NAME.match(text, column)
+        name = found[0] if found else ""
+        fault, end = name_fault(name, column), column + len(name)
+        if fault or end == len(text):
+            return fault
+        if text[end] not in FOLLOWING[before]:
+            due = " or ".join(["a byte of the name", *FOLLOWING[before]])
+            return TextFault(end, 1, False, f"expected {due} at byte {end}")
+        column, before = end + 1, text[end]
 
 
 def form_fault(text: str) -> Iterator[TextFault]:
-    """The first place at which a text has not the form level:category,category/grade; nothing where it has."""
-    column, following = 0, {"": ":/", ":": ",/", ",": ",/", "/": ""}
-    before = ""
-    while True:
-        faults = list(name_fault(text, column))
-        if faults:
-            yield faults[0]
-            return
-        column = NAME.match(text, column).end()
-        if column == len(text):
-            return
-        if text[column] not in following[before]:
-            due = " or ".join(["a byte of the name", *following[before]])
-            yield TextFault(column, 1, False, f"expected {due} at byte {column}")
-            return
-        before = text[column]
-        column += 1
+    """What is wrong with the form of a text of a label; nothing where it has the form."""
+    fault = fault_of_form(text)
+    if fault:
+        yield fault
 
 
 def unknown_names(text: str, policy: Policy) -> Iterator[TextFault]:
@@ -53,7 +57,7 @@ def unknown_names(text: str, policy: Policy) -> Iterator[TextFault]:
         yield TextFault(len(rest) + 1, len(grade), True, f"unknown grade {grade}; grades are {listed(policy.grades)}")
 
 
-def listed(names) -> str:
+def listed(names: Sequence[str]) -> str:
     """Names with commas between them."""
     return ", ".join(names) or "none"
 

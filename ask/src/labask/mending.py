@@ -25,9 +25,9 @@ def head_stand_ins(line: Line, due: Sequence[str]) -> Iterator[bytes]:
         return
     keyword = difflib.get_close_matches(first, due, 1, 0.0)[0]
     if keyword in LISTS:
-        names = dict.fromkeys(NAME.findall(line.text.partition(b" ")[2].decode("latin-1")))
-        names = [name for name in names if len(name) <= MAX_LABEL_NAME][:LISTS[keyword].most]
-        yield " ".join([keyword, *names]).encode("ascii")
+        given = dict.fromkeys(NAME.findall(line.text.partition(b" ")[2].decode("latin-1")))
+        names = [name for name in given if len(name) <= MAX_LABEL_NAME]
+        yield " ".join([keyword, *names[:LISTS[keyword].most]]).encode("ascii")
         yield f"{keyword} base".encode("ascii")
     else:
         yield b"world 2" if keyword == "world" else b"bound all"

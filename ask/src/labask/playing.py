@@ -206,7 +206,7 @@ class Player:
             raise PlayingFault(f"{self.program[0]} does not answer as labsys does")
         return played
 
-    def check(self, text: bytes) -> Optional[Tuple[int, int, int]]:
+    def check(self, text: bytes) -> Tuple[int, int, int]:
         """The numbers of objects, processes and calls of a text that is accepted; raises `Refused` for any other."""
         status, out, messages = self.run(["check"], text)
         if status != STATUS_ACCEPTED:
