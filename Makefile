@@ -28,6 +28,7 @@ install: all
 	install -d '$(DESTDIR)$(bindir)' '$(DESTDIR)$(libexecdir)' '$(DESTDIR)$(mandir)/man1' '$(DESTDIR)$(bashdir)' '$(DESTDIR)$(zshdir)' '$(DESTDIR)$(vimdir)'
 	install -m 755 labsys '$(DESTDIR)$(bindir)/labsys'
 	install -m 755 crates/labsys/out/labsys '$(DESTDIR)$(libexecdir)/labsys'
+	rm -rf '$(DESTDIR)$(askdir)'
 	install -d '$(DESTDIR)$(askdir)'
 	install -m 755 ask/labask '$(DESTDIR)$(askdir)/labask'
 	cd ask/src && find labask -name '*.py' -o -name '*.css' -o -name '*.js' | while read -r file; do \
