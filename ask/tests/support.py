@@ -8,7 +8,9 @@ from typing import Dict, Tuple
 from run_cases import BadCase, find, read_case
 
 from labask import main as labask_main
+from labask.answers import Status
 
+ANSWERED = (Status.NO, Status.YES)
 HERE = pathlib.Path(__file__).resolve().parent
 TOP = HERE.parent.parent
 LABASK = HERE.parent / "labask"

@@ -5,7 +5,7 @@ import sys
 import time
 
 import pytest
-from support import LABASK, TOP, labask
+from support import ANSWERED, LABASK, TOP, labask
 
 from labask import playing
 
@@ -65,13 +65,13 @@ def test_options_between_words():
     options, asked = ("--process", "1@public"), (WORLD, "/exam", "/exam/marks")
     orders = [("who", *asked[:at], *options, *asked[at:]) for at in range(4)] + [("who", *options, "--", *asked)]
     answers = {labask(*words) for words in orders}
-    assert len(answers) == 1 and answers.pop()[0] == 0
+    assert len(answers) == 1 and answers.pop()[0] in ANSWERED
 
 
 def test_program_between_words(program):
     option = ("--labsys", program)
     answers = {labask(*words) for words in (("why", WORLD, "4"), ("why", *option, WORLD, "4"), ("why", WORLD, *option, "4"))}
-    assert len(answers) == 1 and answers.pop()[0] == 0
+    assert len(answers) == 1 and answers.pop()[0] in ANSWERED
 
 
 @pytest.mark.parametrize("words, said", [

@@ -27,9 +27,11 @@ def completed(*words):
     return set(done.stdout.decode().split())
 
 
-def zsh_options(text):
-    """The options that a part of the completion for zsh has."""
-    return set(re.findall(r"--[\w-]+(?=\[)", text))
+def zsh_options(part):
+    """The options that a part of the completion for zsh has, by itself and by the lists that it names."""
+    lists = dict(re.findall(r"^(\w+)=\(\n(.*?)^\)$", ZSH.read_text(encoding="ascii"), re.M | re.S))
+    named = [lists[name] for name in re.findall(r"\$(\w+)", part) if name in lists]
+    return set(re.findall(r"--[\w-]+(?=\[)", "".join([part, *named])))
 
 
 @pytest.mark.skipif(shutil.which("bash") is None, reason="there is no bash")
@@ -52,4 +54,4 @@ def test_questions_of_zsh():
 def test_options_of_zsh(question):
     text = ZSH.read_text(encoding="ascii")
     part = re.search(rf"^    {question}\)(.*?);;$", text, re.M | re.S)
-    assert part and zsh_options(text.partition("common=(")[2].partition(")\n")[0]) | zsh_options(part[1]) == options_of(question)
+    assert part and zsh_options(part[1]) == options_of(question)

@@ -1,10 +1,12 @@
 """`check` and `who` about every example and the input of every case; `why` about all of them is asked by test_why.py.
 
-An answer has exit status 0 or 2, as `labsys` accepts the input or not, and `check` names the line that `labsys` names.
+The exit status is that of an answer or of a refusal, as `labsys` accepts the input or not, and `check` names the line that
+`labsys` names.
 """
 import pytest
-from support import EXAMPLES, case_inputs, labask
+from support import ANSWERED, EXAMPLES, case_inputs, labask
 
+from labask.answers import Status
 from labask.playing import Refused
 from labask.worlds import read_world
 
@@ -41,9 +43,9 @@ def given(request, tmp_path, player):
 
 def test_every_input(given):
     path, refusal = given
-    due = 0 if refusal is None else 2
     status, out, messages = labask("check", path)
-    assert status == due and "Traceback" not in messages
+    assert status == (Status.DONE if refusal is None else Status.REFUSED) and "Traceback" not in messages
     assert refusal is None or (out.splitlines()[-1] == f"labsys: {refusal}" and "no fault was found" not in out), out[:300]
     if refusal is None or path.stat().st_size <= MOST_BYTES:
-        assert labask("who", path, *(first_paths(path.read_bytes()) if refusal is None else ()))[0] == due
+        status = labask("who", path, *(first_paths(path.read_bytes()) if refusal is None else ()))[0]
+        assert status in ((*ANSWERED, Status.STOPPED) if refusal is None else (Status.REFUSED,))

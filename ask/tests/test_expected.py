@@ -6,7 +6,7 @@ import json
 import re
 
 import pytest
-from support import EXAMPLES, HERE, TOP, labask
+from support import ANSWERED, EXAMPLES, HERE, TOP, labask
 
 from labask import main as labask_main
 
@@ -47,7 +47,7 @@ def test_answers(words, write, monkeypatch):
     monkeypatch.chdir(TOP)
     status, out, messages = labask(*words)
     path = expected_of(words)
-    assert status == 0, out + messages
+    assert status in ANSWERED, out + messages
     if write:
         path.parent.mkdir(parents=True, exist_ok=True)
         path.write_text(out + messages, encoding="utf-8")
@@ -62,7 +62,7 @@ def test_no_other_answers_are_expected():
 def test_json(words, monkeypatch):
     monkeypatch.chdir(TOP)
     status, out, _ = labask(*words, "--json")
-    assert status == 0 and isinstance(json.loads(out), dict)
+    assert status in ANSWERED and isinstance(json.loads(out), dict)
 
 
 @pytest.mark.parametrize("status, words", [
