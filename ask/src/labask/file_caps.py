@@ -1,9 +1,9 @@
 """Capabilities of Linux as those of the profile: sets of files and of processes, and their texts."""
-import enum
 import struct
 from dataclasses import dataclass
-from typing import Dict, FrozenSet, Iterable, List, Optional, Tuple
+from typing import FrozenSet, Iterable, List, Optional, Tuple
 
+from labask.capability_texts import Sets as ProfileSets
 from labask.kernel_profile import CAPABILITIES
 
 ATTRIBUTE = "security.capability"
@@ -23,23 +23,13 @@ EFFECTIVE = 0x000001
 WORDS = {0x01000000: 2, 0x02000000: 4, 0x03000000: 5}
 
 
-class Flag(enum.Enum):
-    """The flags of a capability, in the order in which texts have them."""
-    EFFECTIVE = "e"
-    INHERITABLE = "i"
-    PERMITTED = "p"
-
-
 class UnknownVersion(ValueError):
     """An attribute that is none of the versions."""
 
 
 @dataclass(frozen=True)
-class Sets:
-    """Three sets of capabilities of the profile, and the names of those of Linux that it does not have."""
-    permitted: FrozenSet[str]
-    inheritable: FrozenSet[str]
-    effective: FrozenSet[str]
+class Sets(ProfileSets):
+    """Three sets of capabilities of the profile, and the names of those of Linux that it does not have, or that it splits."""
     left_out: Tuple[str, ...] = ()
     split: Tuple[str, ...] = ()
 
@@ -51,14 +41,7 @@ class Sets:
     @property
     def text(self) -> str:
         """The canonical capability text."""
-        held = {Flag.EFFECTIVE: self.effective, Flag.INHERITABLE: self.inheritable, Flag.PERMITTED: self.permitted}
-        groups: Dict[str, List[str]] = {}
-        for name in CAPABILITIES:
-            flags = "".join(flag.value for flag in Flag if name in held[flag])
-            if flags:
-                groups.setdefault(flags, []).append(name)
-        clauses = (f"{'all' if len(names) == len(CAPABILITIES) else ','.join(names)}={flags}" for flags, names in groups.items())
-        return " ".join(clauses) or "="
+        return self.written
 
 
 @dataclass(frozen=True)
@@ -81,7 +64,8 @@ def profile_names(names: Iterable[str]) -> FrozenSet[str]:
 def sets_of(permitted: int, inheritable: int, effective: int) -> Sets:
     """Sets of the profile for three sets of Linux, as bits."""
     given = names_of(permitted | inheritable | effective)
-    return Sets(profile_names(names_of(permitted)), profile_names(names_of(inheritable)), profile_names(names_of(effective)),
+    return Sets(effective=profile_names(names_of(effective)), inheritable=profile_names(names_of(inheritable)),
+                permitted=profile_names(names_of(permitted)),
                 left_out=tuple(name for name in given if name not in CAPABILITIES and name not in SPLIT),
                 split=tuple(name for name in given if name in SPLIT))
 

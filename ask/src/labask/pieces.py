@@ -1,7 +1,9 @@
 """Contents in pieces that lines of a world or of a script can hold."""
 from typing import Iterator
 
-LINE_BYTES = 2048
+from labask.kernel_profile import MAX_LINE
+
+LINE_BYTES = MAX_LINE
 
 
 def piece_length(content: bytes, room: int) -> int:
