@@ -117,8 +117,7 @@ def label_advice(line: Line, words: Sequence[Word]) -> Iterator[Advice]:
 
 def ids_advice(line: Line) -> Iterator[Advice]:
     """A user and a group in one word, and root by its name."""
-    joined = [word for word in line.words[1:] if re.fullmatch(r"\w+:\w+", word.text) and word.text.count(":") == 1]
-    for word in joined:
+    for word in (word for word in line.words[1:] if re.fullmatch(r"(\d+|root):(\d+|root)", word.text)):
         text = replaced(line, [word], word.text.replace(":", " ").replace("root", "0"))
         yield on_words("the word", [word], "a user and a group are two words", [text], True)
     if any(word.text == "root" for word in line.words):
