@@ -36,6 +36,11 @@ def table(rows: Iterable[Sequence[str]], indent: str = "") -> List[str]:
     return [form.format(*row).rstrip() for row in rows]
 
 
+def show_table(rows: Iterable[Sequence[str]]) -> None:
+    """Writes a table to standard output."""
+    print("\n".join(table(rows)))
+
+
 class Progress:
     """Says on standard error how far a question is, where that is a terminal."""
 
