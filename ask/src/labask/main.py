@@ -8,7 +8,7 @@ import importlib
 import os
 import sys
 from dataclasses import dataclass
-from typing import NoReturn, Optional, Sequence
+from typing import Any, NoReturn, Optional, Sequence
 
 from labask import __version__
 from labask.answers import Status, WrongWords
@@ -35,8 +35,9 @@ QUESTIONS = {
     "trace": Question("tracing", "script lines made from a log of strace"),
 }
 ENDING = """\
-Exit status: 0 where the question was answered, 1 for a wrong command line, a file that can't be read or an answer that can't be
-written, 2 where labsys refuses the input, and 70 where labsys is missing, is another program, or fails."""
+Exit status: 0 where the question was answered with no, or what was asked for was written, 3 where it was answered with yes (the page of
+a question says what that is), 4 where it was stopped early and nothing was found, 1 for a wrong command line, a file that can't be read
+or an answer that can't be written, 2 where labsys refuses the input, and 70 where labsys is missing, is another program, or fails."""
 
 
 class QuestionParser(argparse.ArgumentParser):
@@ -48,20 +49,21 @@ class QuestionParser(argparse.ArgumentParser):
         self.print_usage(sys.stderr)
         self.exit(Status.WRONG_WORDS, f"{self.prog}: {message}\n")
 
-    def _print_message(self, message, file=None):
+    def _print_message(self, message: str, file: Any = None) -> None:
         """As that of the base class, which passes over faults of writing; help that can't be written is none."""
         if file is sys.stdout:
             file.write(message)
         else:
             super()._print_message(message, file)
 
-    def parse_known_args(self, args=None, namespace=None):
+    def parse_known_args(self, args: Any = None, namespace: Any = None) -> Any:
         """As that of the base class, with the arguments of the question, between whose words options may stand."""
         if self.question is not None:
             self.add_question(QUESTIONS[self.question].module)
             self.question = None
-            if "--" not in args:
-                return self.parse_known_intermixed_args(args, namespace)
+            rest = args[args.index("--") + 1:] if "--" in args else []
+            if not any(word.startswith("-") for word in rest):
+                return self.parse_known_intermixed_args([word for word in args if word != "--"], namespace)
         return super().parse_known_args(args, namespace)
 
     def add_question(self, name: str) -> None:
@@ -122,10 +124,12 @@ def answered(words: Optional[Sequence[str]]) -> int:
         arguments = make_parser().parse_args(words)
         player = Player([program_behind(find_program(arguments.labsys))])
         try:
-            return arguments.answer(arguments, player)
+            return int(arguments.answer(arguments, player))
         except Refused as refused:
             say_refusal(arguments, refused, player)
             return Status.REFUSED
+        finally:
+            player.end_all()
     finally:
         sys.stdout.flush()
 
@@ -141,9 +145,12 @@ def main(words: Optional[Sequence[str]] = None) -> int:
     except WrongWords as fault:
         print(f"labask: {fault}", file=sys.stderr)
         return Status.WRONG_WORDS
+    except KeyboardInterrupt:
+        print("labask: stopped", file=sys.stderr)
+        return Status.STOPPED
     except BrokenPipeError:
         discard_output()
-        return Status.DONE
+        return Status.WRONG_WORDS
     except OSError as fault:
         print(f"labask: {fault.filename or 'standard output'}: {fault.strerror}", file=sys.stderr)
         if not fault.filename:
