@@ -92,6 +92,11 @@ def processors() -> int:
     return len(os.sched_getaffinity(0)) if hasattr(os, "sched_getaffinity") else os.cpu_count() or 1
 
 
+def default_effort() -> Effort:
+    """The effort of a question that has no option for it: all processors, and no end."""
+    return Effort(processors(), quiet=not sys.stderr.isatty())
+
+
 def number_of_jobs(text: str) -> int:
     """How many plays run side by side, for `add_argument`."""
     count = number(text, MOST_JOBS)
