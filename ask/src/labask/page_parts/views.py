@@ -7,7 +7,8 @@ from bisect import bisect_left
 from dataclasses import dataclass
 from typing import Dict, FrozenSet, Iterator, List, Optional, Sequence, Tuple
 
-from labask.answers import Progress, WrongWords
+from labask.answers import WrongWords
+from labask.effort import default_effort
 from labask.playing import Player, PlayingFault
 from labask.worlds import UTILITIES, ScriptLine, World
 
@@ -118,10 +119,10 @@ def view_of(player: Player, run: Run, ranks: Ranks, label: str) -> View:
 
 def views_of(player: Player, run: Run, ranks: Ranks, labels: Sequence[str]) -> List[View]:
     """Plays what labels see, and gives it in the order of the labels; says how far it is where that is a terminal."""
-    progress = Progress("views", len(labels))
-    views = []
-    for label in sorted(labels, key=lambda label: ranks.order.get(label, -1)):
-        progress.reached(len(views))
-        views.append(view_of(player, run, ranks, label))
-    progress.end()
+    effort, views = default_effort(), []
+    ordered = sorted(labels, key=lambda label: ranks.order.get(label, -1))
+    for view in effort.results(lambda label: view_of(player, run, ranks, label), ordered):
+        views.append(view)
+        effort.progress(f"views: {len(views)} of {len(ordered)}")
+    effort.clear()
     return views
