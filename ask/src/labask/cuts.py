@@ -5,9 +5,10 @@ import re
 from dataclasses import dataclass
 from typing import Any, Dict, Iterator, List, Optional, Sequence, Set, Tuple, Union
 
-from labask.answers import NOT_ABSENT, PLAYED, Progress, WrongWords, table, write_json
+from labask.answers import NOT_ABSENT, PLAYED, WrongWords, table, write_json
 from labask.capability_texts import read_sets
 from labask.command_words import number
+from labask.effort import default_effort
 from labask.observing import prefixes
 from labask.playing import Outcome, Played, Player, Reply, Session
 from labask.signatures import CALLS, CAPABILITIES, UTILITIES, arguments_of
@@ -194,17 +195,16 @@ class Cutter:
     def cuts(self) -> List[Cut]:
         """The changes after which the call is not done, those first that change the fewest other replies."""
         changes = list(changes_of(self.world, touched(self.world, self.call)))
-        progress = Progress("cuts", len(changes))
+        effort = default_effort()
         found: List[Cut] = []
-        for count, change in enumerate(changes, 1):
-            replies = self.replies(change)
-            progress.reached(count)
+        for count, (change, replies) in enumerate(zip(changes, effort.results(self.replies, changes)), 1):
+            effort.progress(f"cuts: {count} of {len(changes)} changes")
             self.tried += replies is not None
             if replies is None or replies[self.call - 1].outcome is Outcome.DONE:
                 continue
             others = differing(replies, self.played.replies, change.relabels)
             found.append(Cut(change, replies[self.call - 1], tuple(number for number in others if number != self.call)))
-        progress.end()
+        effort.clear()
         return sorted(found, key=lambda cut: (len(cut.others), cut.reply.outcome is not Outcome.DENIED))
 
 
