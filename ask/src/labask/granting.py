@@ -3,6 +3,7 @@ from dataclasses import dataclass, replace
 from typing import Any, Dict, FrozenSet, Iterable, List, Optional, Sequence, Tuple
 
 from labask.capability_texts import Sets, read_sets
+from labask.effort import default_effort
 from labask.playing import Outcome, Player, Refused, Reply, Session
 from labask.signatures import CAPABILITIES, arguments_of
 from labask.worlds import ScriptLine, World, quoted
@@ -196,7 +197,7 @@ class Trials:
         trial = self.trial(line)
         found = self.tried(trial, line, denied)
         if trial.departed:
-            alone = (self.alone(line, denied, (name,)) for name in CAPABILITIES)
+            alone = default_effort().results(lambda name: self.alone(line, denied, (name,)), CAPABILITIES)
             found = next((each for each in alone if each is not None), None)
         elif found is not None and "CAPS" in arguments_of(line.call, len(line.arguments)):
             return self.reduced(line, denied, found)
