@@ -379,9 +379,9 @@ def answer(arguments: argparse.Namespace, player: Player) -> int:
     """Answers the question."""
     if arguments.ever:
         return int(importlib.import_module("labask.ever").answer_ever(arguments, player))
-    text = read_file(arguments.file)
+    effort, text = effort_of(arguments), read_file(arguments.file)
     player.check(text)
-    world, effort = read_world(text), effort_of(arguments)
+    world = read_world(text)
     processes, objects = chosen(world, arguments.paths, arguments.process)
     answers = list(ask(world, processes, objects, player, effort))
     if arguments.json:
