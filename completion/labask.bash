@@ -15,7 +15,7 @@ _labask() {
     case $question in
     '') options="--labsys --help --version" ;;
     check) options="--all --least" ;;
-    who) options="--process" ;;
+    who) options="--process --ever --jobs --time --quiet" ;;
     why) options="--against" ;;
     flow) options="--depth --without" ;;
     cuts) options="--apply" ;;
@@ -24,7 +24,7 @@ _labask() {
     trace) options="--directory --as --start --umask" ;;
     esac
     case $before in
-    --json | --help | --version | --all | --least) ;;
+    --json | --help | --version | --all | --least | --ever | --quiet) ;;
     --*) return ;; # its value, which may be the name of a file
     esac
     if [ -z "$question" ]; then
