@@ -99,7 +99,8 @@ def test_an_end_of_the_time_is_said_and_has_a_status() -> None:
 def slow_labsys(folder: pathlib.Path, pause: float) -> pathlib.Path:
     """A program that waits before it plays as labsys does, and makes a file `plays` then."""
     program = folder / "slow"
-    program.write_text(f'#!/bin/sh\ncase $1 in play) touch {folder}/plays && sleep {pause} ;; esac\nexec {find_program()} "$@"\n', encoding="ascii")
+    lines = ("#!/bin/sh", f"case $1 in play) touch {folder}/plays && sleep {pause} ;; esac", f'exec {find_program()} "$@"')
+    program.write_text("\n".join(lines) + "\n", encoding="ascii")
     program.chmod(0o755)
     return program
 

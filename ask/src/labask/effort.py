@@ -107,8 +107,8 @@ def number_of_jobs(text: str) -> int:
 
 def add_effort_arguments(parser: argparse.ArgumentParser) -> None:
     """Adds the options that say how much work a question may be."""
-    parser.add_argument("--jobs", metavar="N", type=number_of_jobs, help="how many plays run side by side; as many as there are processors by "
-                        "default")
+    parser.add_argument("--jobs", metavar="N", type=number_of_jobs, help="how many plays run side by side; by default as many as there "
+                        "are processors")
     parser.add_argument("--time", metavar="SECONDS", type=number, help="stop after so many seconds, and answer what is known by then")
     parser.add_argument("--quiet", action="store_true", help="show no progress on a terminal")
 

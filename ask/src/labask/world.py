@@ -4,9 +4,9 @@ import collections
 import os
 import sys
 from dataclasses import dataclass, field
-from typing import Dict, List, Optional, Tuple
+from typing import Any, Dict, List, Optional, Tuple
 
-from labask.answers import write_json
+from labask.answers import Status, write_json
 from labask.command_words import named, number
 from labask.directories import Entry, LeftOut, Note, Reading, SecondName, Unfit, note_text, read_tree
 from labask.file_caps import SPLIT, own_sets
@@ -15,8 +15,6 @@ from labask.pieces import LINE_BYTES, piece_length, pieces
 from labask.playing import Outcome, Player, Refused
 from labask.worlds import Kind, path_word, quoted, read_world
 
-DONE = 0
-REFUSED = 2
 FILE_BYTES = 65536
 GROUPS = 16
 MAKER_CAPS = "cap_dac_read_search,cap_dac_write,cap_fsetid,cap_mac_read,cap_mac_write=ep"
@@ -233,7 +231,7 @@ def unused_labels(writing: Writing) -> List[str]:
             for path, at in writing.labels.named_at.items() if path not in used]
 
 
-def as_json(writing: Writing) -> dict:
+def as_json(writing: Writing) -> Dict[str, Any]:
     """The answer for `--json`."""
     kinds = collections.Counter(line.split(" ", 1)[0] for line in writing.lines)
     return {"world": writing.text.decode("ascii"), "objects": sum(kinds[kind.value] for kind in Kind), "processes": kinds["proc"],
@@ -250,11 +248,11 @@ def answer(arguments: argparse.Namespace, player: Player) -> int:
     except (Faults, LabelFault) as faults:
         for line in getattr(faults, "lines", [str(faults)]):
             print(f"labask: {line}", file=sys.stderr)
-        return REFUSED
+        return Status.REFUSED
     for line in unused_labels(writing):
         print(f"labask: {line}", file=sys.stderr)
     if arguments.json:
         write_json(as_json(writing))
     else:
         sys.stdout.write(writing.text.decode("ascii"))
-    return DONE
+    return Status.DONE

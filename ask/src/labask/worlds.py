@@ -10,7 +10,7 @@ import re
 import sys
 from dataclasses import dataclass, field
 from functools import cached_property
-from typing import Callable, Dict, Iterable, Iterator, List, Mapping, NamedTuple, Optional, Sequence, Tuple
+from typing import Callable, Dict, Iterable, Iterator, List, Mapping, NamedTuple, Optional, Sequence, Tuple, Union, overload
 
 from labask.kernel_profile import MAX_INPUT as MAX_INPUT
 from labask.kernel_profile import MAX_LINE as MAX_LINE
@@ -89,7 +89,13 @@ class Lines(Sequence[Line]):
     def __len__(self) -> int:
         return len(self.pieces)
 
-    def __getitem__(self, at):
+    @overload
+    def __getitem__(self, at: int) -> Line: ...
+
+    @overload
+    def __getitem__(self, at: slice) -> Tuple[Line, ...]: ...
+
+    def __getitem__(self, at: Union[int, slice]) -> Union[Line, Tuple[Line, ...]]:
         if isinstance(at, slice):
             return tuple(map(self._line, range(*at.indices(len(self)))))
         return self._line(range(len(self))[at])
@@ -384,7 +390,7 @@ def read_names(lines: Iterable[Line]) -> Tuple[Policy, str]:
     for line in lines:
         if line.words and line.words[0].text in ("levels", "categories", "grades", "bound"):
             found.setdefault(line.words[0].text, tuple(word.text for word in line.words[1:]))
-    policy = Policy(*(found.get(name, ()) for name in ("levels", "categories", "grades")))
+    policy = Policy(found.get("levels", ()), found.get("categories", ()), found.get("grades", ()))
     return policy, " ".join(found.get("bound", ()))
 
 
