@@ -168,12 +168,3 @@ def test_the_handler_is_left_where_interrupts_are_ignored() -> None:
         assert effort_of(Arguments).jobs == 2 and signal.getsignal(signal.SIGINT) is signal.SIG_IGN  # type: ignore[arg-type]
     finally:
         signal.signal(signal.SIGINT, before)
-
-
-def test_progress_is_shown_on_a_terminal_alone(capsys: pytest.CaptureFixture[str]) -> None:
-    effort = Effort(quiet=False)
-    effort.progress("who: 1 of 2")
-    effort.clear()
-    assert capsys.readouterr().err.replace("\r\x1b[K", "|") == "|labask: who: 1 of 2|"
-    Effort().progress("who: 1 of 2")
-    assert capsys.readouterr().err == ""

@@ -17,8 +17,7 @@ LIMITS = settings(max_examples=15, deadline=None, database=None, suppress_health
 WORDS = ["dir", "file", "fifo", "proc", "script", "world", "2", "levels", "categories", "bound", "all", "none", "/", "/a", "/a/b", '""',
          '"x"', '"="', "0755", "0", "10", "-", "low", "high", "low:a", "1@low", "9@high", "open", "read", "r", "w", "getpid", "fork",
          "setfcap", "cap_kill=ep", "4294967295", "4294967296", "#", '"', "\\", "\t", "\x00", "\xff", "²", "label:low", "/**", "/*"]
-OPTIONS = ["--json", "--process", "--ever", "--jobs", "--time", "--depth", "--without", "--against", "--all", "--least", "--none", "--", "-",
-           "-x", "--labsys"]
+OPTIONS = ["--json", "--process", "--jobs", "--time", "--depth", "--without", "--against", "--all", "--least", "--none", "--", "-", "-x"]
 GOOD = [path.read_bytes() for path in EXAMPLES if path.stat().st_size < 2_000]
 lines = st.lists(st.sampled_from(WORDS), max_size=8).map(" ".join).map(lambda text: text.encode("utf-8"))
 texts = st.one_of(st.binary(max_size=200), st.lists(lines, max_size=12).map(b"\n".join))
@@ -74,11 +73,9 @@ def test_any_file_has_an_answer(question: Tuple[str, ...], text: bytes) -> None:
 
 @LIMITS
 @given(question=st.sampled_from(["check", "who", "why", "flow", "cuts"]), given_words=st.lists(words, max_size=3),
-       options=st.lists(st.sampled_from(OPTIONS[:-1]), max_size=2), place=st.integers(0, 5))
+       options=st.lists(st.sampled_from(OPTIONS), max_size=2), place=st.integers(0, 5))
 def test_any_command_line_has_an_answer(question: str, given_words: List[str], options: List[str], place: int) -> None:
     asked_words = [str(EXAMPLES[0]), *given_words, *options]
-    if "--ever" in options:
-        asked_words = [word for word in asked_words if word != "--ever"]
     require_answer(question, *asked_words[place % len(asked_words):], *asked_words[:place % len(asked_words)])
 
 

@@ -2,7 +2,9 @@
 import enum
 import json
 import sys
-from typing import Any, Iterable, List, Sequence
+from typing import Any, Callable, Iterable, List, Sequence
+
+from labask.terminal import show_rich_table
 
 PLAYED = "Every answer was played by labsys."
 NOT_ABSENT = "What was not found is not shown to be absent."
@@ -36,9 +38,16 @@ def table(rows: Iterable[Sequence[str]], indent: str = "") -> List[str]:
     return [form.format(*row).rstrip() for row in rows]
 
 
-def show_table(rows: Iterable[Sequence[str]]) -> None:
-    """Writes a table to standard output."""
-    print("\n".join(table(rows)))
+def plain(_: str) -> str:
+    """The style of every cell of a table that has no others."""
+    return ""
+
+
+def show_table(rows: Iterable[Sequence[str]], style: Callable[[str], str] = plain) -> None:
+    """Writes a table, whose first row is its head, to standard output; on a terminal its cells have styles."""
+    rows = list(rows)
+    if not show_rich_table(rows, style):
+        print("\n".join(table(rows)))
 
 
 class Progress:

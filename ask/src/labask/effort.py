@@ -14,6 +14,7 @@ from dataclasses import dataclass, field
 from typing import Any, Callable, Deque, Iterable, Iterator, Optional, TypeVar
 
 from labask.command_words import number
+from labask.terminal import ProgressLine, progress_line
 
 MOST_JOBS = 1_024
 SHOWN_SECONDS = 0.1  # between two lines of progress
@@ -32,6 +33,7 @@ class Effort:
     interrupted: bool = False
     stopped: bool = False
     shown_at: Optional[float] = field(default=None, repr=False)
+    line: Optional[ProgressLine] = field(default=None, repr=False)
 
     def over(self) -> bool:
         """Whether the work is to stop: its time is over, or Ctrl-C came."""
@@ -72,14 +74,15 @@ class Effort:
         now = time.monotonic()
         if self.quiet or (self.shown_at is not None and now < self.shown_at + SHOWN_SECONDS):
             return
+        self.line = self.line or progress_line()
         self.shown_at = now
-        print(f"\r\x1b[Klabask: {text}", end="", file=sys.stderr, flush=True)
+        self.line.show(text)
 
     def clear(self) -> None:
-        """Takes the line of progress away."""
-        if self.shown_at is not None:
-            print("\r\x1b[K", end="", file=sys.stderr, flush=True)
-            self.shown_at = None
+        """Takes the line of progress away, before the answer is written."""
+        self.shown_at = None
+        if self.line is not None:
+            self.line.clear()
 
     def interrupt(self, *_: Any) -> None:
         """Has the work stop, as a handler of SIGINT; the next one ends the program."""

@@ -368,6 +368,11 @@ def rows_of(answers: Iterable[Answer]) -> Iterator[List[str]]:
         yield row
 
 
+def style_of(cell: str) -> str:
+    """The style of a cell on a terminal: what may be done stands out, and what a capability is needed for."""
+    return {"yes": "green", "by": "yellow", "-": "dim"}.get(cell.partition(" ")[0], "")
+
+
 def status_of(answers: Sequence[Answer], whole: bool) -> Status:
     """Yes where some process may do what was asked about; no where none may, and all was asked."""
     if any(each.allowed for each in answers):
@@ -387,7 +392,7 @@ def answer(arguments: argparse.Namespace, player: Player) -> int:
     if arguments.json:
         write_json({"played": True, "whole": not effort.stopped, "answers": [each.as_json() for each in answers]})
     else:
-        show_table(rows_of(answers))
+        show_table(rows_of(answers), style_of)
         if effort.stopped:
             print(f"The table is not whole: it was stopped after {len(answers):,} of {count_rights(processes, objects):,} answers.")
         print(f"{PLAYED} {SINGLE_CALLS}")
