@@ -168,3 +168,18 @@ def test_the_handler_is_left_where_interrupts_are_ignored() -> None:
         assert effort_of(Arguments).jobs == 2 and signal.getsignal(signal.SIGINT) is signal.SIG_IGN  # type: ignore[arg-type]
     finally:
         signal.signal(signal.SIGINT, before)
+
+
+def test_an_interrupt_ends_what_was_started(tmp_path: pathlib.Path) -> None:
+    program, started = tmp_path / "waiting", tmp_path / "started"
+    lines = ("#!/bin/sh", f"case $1 in check) echo $$ > {started}; sleep 3600 ;; esac", f'exec {find_program()} "$@"')
+    program.write_text("\n".join(lines) + "\n", encoding="ascii")
+    program.chmod(0o755)
+    words = [sys.executable, str(LABASK), "--labsys", str(program), "check", str(LESSON)]
+    with subprocess.Popen(words, stdout=subprocess.PIPE, stderr=subprocess.PIPE) as run:
+        while not started.exists() or not started.read_text(encoding="ascii"):
+            time.sleep(0.05)
+        run.send_signal(signal.SIGINT)
+        out, said = run.communicate(timeout=60)
+    assert (run.returncode, out, said) == (4, b"", b"labask: stopped\n")
+    assert not pathlib.Path("/proc", started.read_text(encoding="ascii").strip()).exists()

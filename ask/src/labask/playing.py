@@ -162,17 +162,19 @@ class Player:
 
     def wait(self, run: "subprocess.Popen[bytes]") -> int:
         """The exit status of a run."""
-        try:
-            return run.wait()
-        finally:
-            with self._lock:
-                self._running.discard(run)
+        status = run.wait()
+        with self._lock:
+            self._running.discard(run)
+        return status
 
     def end_all(self) -> None:
-        """Ends all runs, and what they have started."""
+        """Ends all runs that are not waited for to their end, and what they have started."""
         with self._lock:
-            for run in self._running:
-                kill_session(run)
+            running = [run for run in self._running if run.poll() is None]
+            self._running.clear()
+        for run in running:
+            kill_session(run)
+            run.wait()
 
     def run(self, words: Sequence[str], text: bytes) -> Tuple[int, bytes, bytes]:
         """The exit status of a command of `labsys`, its output, and its messages. A status other than 0, 2 and 7 is a fault."""
