@@ -25,6 +25,7 @@ STATUS_TOO_LONG = 7
 ANSWERED = (STATUS_ACCEPTED, STATUS_REFUSED, STATUS_TOO_LONG)
 VERSION = re.compile(rb"labsys [0-9]+\.[0-9]+\.[0-9]+[^ ]*$")
 COUNTS = re.compile(rb"ok ([0-9]+) ([0-9]+) ([0-9]+)\n")
+RECORD = re.compile(rb"^[0-9]+ ", re.M)  # begins the line of a record of a trail
 LAST_LINE = re.compile(rb"^done [0-9]+\n\Z", re.M)
 MAX_NUMBERS = 65_535  # of objects and of descriptions of a label
 FIRST_SECONDS = 10.0  # within which a program says its version
@@ -232,11 +233,29 @@ class Player:
 
     def select(self, spec: str, trail: bytes) -> List[Dict[str, Any]]:
         """The records of a trail that SPEC picks, each as the object that its line of JSON has; raises `Refused` for a fault."""
+        return [record for piece in pieces_of(trail) for record in self.select_piece(spec, piece)]
+
+    def select_piece(self, spec: str, trail: bytes) -> List[Dict[str, Any]]:
+        """The same of a trail that is short enough to be read at once."""
         status, out, messages = self.run(["select", spec], trail)
         if status != STATUS_ACCEPTED:
             raise Refused(trail, Played(status, out, b"", messages).refusal)
         records: List[Dict[str, Any]] = json.loads("[" + ",".join(out.decode("ascii").split("\n")[:-2]) + "]")
         return records
+
+
+def pieces_of(trail: bytes, most: int = MAX_INPUT) -> Iterator[bytes]:
+    """A trail in pieces of at most so many bytes, each with the header and some of the records; a short one is one piece."""
+    if len(trail) <= most:
+        yield trail
+        return
+    begin = RECORD.search(trail)
+    header = trail[:begin.start()] if begin else trail
+    at = len(header)
+    while at < len(trail):
+        end = len(trail) if len(trail) - at <= most - len(header) else trail.rindex(b"\n", at, at + most - len(header)) + 1
+        yield header + trail[at:end]
+        at = end
 
 
 def pipe_end(end: "Optional[IO[bytes]]") -> "IO[bytes]":

@@ -60,7 +60,8 @@ class Draws(NamedTuple):
     processes: int = 0
     descriptions: int = 0
 
-    def __add__(self, other: "Draws") -> "Draws":  # type: ignore[override]
+    def plus(self, other: "Draws") -> "Draws":
+        """So many besides."""
         return Draws(self.processes + other.processes, self.descriptions + other.descriptions)
 
 
@@ -198,7 +199,7 @@ def asking_of(target: WorldObject, namer: Namer, longest_tag: int, forks: bool) 
             continue
         places.append((form.right, len(lines) + form.answering))
         lines += form.lines
-        draws += form.draws
+        draws = draws.plus(form.draws)
     return Asking(target, "\n".join(lines), len(lines), tuple(places), draws)
 
 
@@ -219,12 +220,12 @@ class Drawn:
 
     def has_room(self, label: str, draws: Draws) -> bool:
         """Whether there are so many numbers of a label."""
-        after = self.now[label] + draws
+        after = self.now[label].plus(draws)
         return after.descriptions <= MAX_NUMBERS and (after.processes <= MAX_PROCESSES or not draws.processes)
 
     def draw(self, label: str, draws: Draws) -> None:
         """Draws so many numbers of a label."""
-        self.now[label] += draws
+        self.now[label] = self.now[label].plus(draws)
 
 
 @dataclass
