@@ -28,13 +28,13 @@ def write(path: pathlib.Path, *parts: str) -> pathlib.Path:
     return path
 
 
-@pytest.mark.parametrize("free", [0, 1, 3_000])
+@pytest.mark.parametrize("free", [0, 3_000])
 def test_a_label_with_nearly_all_numbers_of_objects(tmp_path: pathlib.Path, free: int) -> None:
     directories = "".join(f"dir /d{number} 0{'57'[number % 2]}55 0 0 a\n" for number in range(65_534 - free))
     path, player = write(tmp_path / "world", directories, ROOT, USER), Player([find_program()])
     world = read_world(path.read_bytes())
-    found = list(who.ask(world, world.processes, world.objects[1:4_001], player))
-    due = [[right is not who.Right.WRITE or (tag == "1@a" and number % 2 == 1), right] for number in range(4_000)
+    found = list(who.ask(world, world.processes, world.objects[1:2_001], player))
+    due = [[right is not who.Right.WRITE or (tag == "1@a" and number % 2 == 1), right] for number in range(2_000)
            for tag in ("1@a", "2@a") for right in (who.Right.LIST, who.Right.SEARCH, who.Right.WRITE)]
     assert [[each.allowed, each.right] for each in found] == due
     assert player.plays < 20

@@ -17,27 +17,39 @@ from labask.playing import Player, PlayingFault, Refused, find_program
 from labask.programs import program_behind
 
 
+WRITTEN = "0 where it is written"
+STOPPED = "4 where it was stopped early and nothing was found by then"
+
+
 @dataclass(frozen=True)
 class Question:
-    """A question: the name of its module, and one line of help."""
+    """A question: the name of its module, one line of help, and what its exit status says."""
     module: str
     help: str
+    status: str
 
 
 QUESTIONS = {
-    "check": Question("check", "does labsys accept FILE, and else what is wrong with the line that it refuses"),
-    "who": Question("who", "which process may read, write, execute, list or search which object, and by which right"),
-    "why": Question("why", "why was a call of the script denied or refused, and which capability would have let it pass"),
-    "flow": Question("flow", "can bytes of one object get to a process or another object, and by which calls"),
-    "cuts": Question("cuts", "which single changes of the world have a call denied"),
-    "page": Question("page", "one page of HTML with the run of FILE"),
-    "world": Question("world", "a world made from a directory"),
-    "trace": Question("tracing", "script lines made from a log of strace"),
+    "check": Question("check", "does labsys accept FILE, and else what is wrong with the line that it refuses",
+                      "0 where FILE is accepted, 2 where it is refused"),
+    "who": Question("who", "which process may read, write, execute, list or search which object, and by which right",
+                    "3 where some process may do something of what is asked, 0 where none may do any of it, 4 where that was not all asked "
+                    "and nothing was found by then"),
+    "why": Question("why", "why was a call of the script denied or refused, and which capability would have let it pass",
+                    "3 where a call of those asked was denied or refused, or with --against a reply differs from the log, 0 where none was "
+                    f"or does, {STOPPED}"),
+    "flow": Question("flow", "can bytes of one object get to a process or another object, and by which calls",
+                     f"3 where calls were found, 0 where none were, {STOPPED}"),
+    "cuts": Question("cuts", "which single changes of the world have a call denied",
+                     f"3 where a change was found, 0 where none was, {STOPPED}"),
+    "page": Question("page", "one page of HTML with the run of FILE", WRITTEN),
+    "world": Question("world", "a world made from a directory", WRITTEN),
+    "trace": Question("tracing", "script lines made from a log of strace", WRITTEN),
 }
 ENDING = """\
-Exit status: 0 where the question was answered with no, or what was asked for was written, 3 where it was answered with yes (the page of
-a question says what that is), 4 where it was stopped early and nothing was found, 1 for a wrong command line, a file that can't be read
-or an answer that can't be written, 2 where labsys refuses the input, and 70 where labsys is missing, is another program, or fails."""
+Exit status: 0 where the answer is no, or what was asked for is written; 3 where the answer is yes, as `labask QUESTION --help` says; 4
+where the question was stopped early and nothing was found by then; 1 for a wrong command line, a file that can't be read or an answer
+that can't be written; 2 where labsys refuses the input; 70 where labsys is missing, is another program, or fails."""
 
 
 class QuestionParser(argparse.ArgumentParser):
@@ -90,7 +102,8 @@ def make_parser() -> QuestionParser:
     parser.add_argument("--version", action="version", version=f"labask {__version__}", help="print the version and end")
     questions = parser.add_subparsers(metavar="QUESTION", required=True)
     for name, question in QUESTIONS.items():
-        made = questions.add_parser(name, help=question.help, description=question.help[0].upper() + question.help[1:] + ".")
+        made = questions.add_parser(name, help=question.help, description=question.help[0].upper() + question.help[1:] + ".",
+                                    epilog=f"Exit status: {question.status}. Those of faults are said by `labask --help`.")
         made.question = name
     return parser
 
