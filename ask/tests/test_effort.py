@@ -15,6 +15,8 @@ from labask.effort import Effort, effort_of
 from labask.playing import Player, PlayingFault, find_program
 from labask.programs import program_behind
 
+pytestmark = pytest.mark.usefixtures("program")
+
 LESSON = TOP / "examples" / "lesson.txt"
 LABASK = HERE.parent / "labask"
 SOURCES = ("labsys", "build.sh", "crates.txt", "docs/version.txt", "docs/help.txt")

@@ -13,6 +13,8 @@ from support import EXAMPLES
 from labask.answers import Status
 from labask.main import main
 
+pytestmark = pytest.mark.usefixtures("program")
+
 LIMITS = settings(max_examples=15, deadline=None, database=None, suppress_health_check=list(HealthCheck))
 WORDS = ["dir", "file", "fifo", "proc", "script", "world", "2", "levels", "categories", "bound", "all", "none", "/", "/a", "/a/b", '""',
          '"x"', '"="', "0755", "0", "10", "-", "low", "high", "low:a", "1@low", "9@high", "open", "read", "r", "w", "getpid", "fork",

@@ -5,6 +5,8 @@ from support import EXAMPLES
 from labask import playing
 from labask.playing import Player, find_program
 
+pytestmark = pytest.mark.usefixtures("program")
+
 
 @pytest.mark.parametrize("most", [400, 700, 10**6])
 def test_pieces_of_a_trail_have_all_records(monkeypatch: pytest.MonkeyPatch, most: int) -> None:

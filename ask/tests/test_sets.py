@@ -9,6 +9,8 @@ from labask.answers import WrongWords
 from labask.sets import objects_named, processes_named
 from labask.worlds import read_world
 
+pytestmark = pytest.mark.usefixtures("program")
+
 LESSON = TOP / "examples" / "lesson.txt"
 HEAD = "world 2\nlevels low high\ncategories a b\nbound all\n"
 WORLD = HEAD + "".join(f"dir {path} 0755 0 0 {label}\n" for path, label in (

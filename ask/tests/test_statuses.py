@@ -9,6 +9,8 @@ from support import HERE, TOP, labask
 from labask.answers import Status
 from labask.main import QUESTIONS
 
+pytestmark = pytest.mark.usefixtures("program")
+
 LESSON = TOP / "examples" / "lesson.txt"
 PAGE = (TOP / "docs" / "ASK.md").read_text(encoding="utf-8")
 

@@ -11,6 +11,8 @@ from support import HERE, TOP
 from labask import terminal
 from labask.effort import Effort
 
+pytestmark = pytest.mark.usefixtures("program")
+
 CODES = re.compile(r"\x1b\[[0-9;?]*[A-Za-z]")
 WORDS = ("who", "examples/lesson.txt", "/exam/marks")
 

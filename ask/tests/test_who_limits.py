@@ -8,6 +8,8 @@ from labask import who
 from labask.playing import Player, find_program
 from labask.worlds import MAX_INPUT, read_world
 
+pytestmark = pytest.mark.usefixtures("program")
+
 HEAD = "world 2\nlevels a b\ncategories\nbound all\ndir / 0755 0 0 a\n"
 USER, ROOT = 'proc a 1 1 - "="\n', 'proc a 0 0 - "="\n'
 

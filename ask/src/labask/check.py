@@ -72,13 +72,13 @@ def explanation(text: bytes, refusal: Refusal, player: Player) -> Explanation:
     """What is wrong with the line of a refusal: a usual slip, or else the fault that the refusal names."""
     world = read_world(first_lines(text, refusal.line))
     line = world.lines[refusal.line - 1] if refusal.line <= len(world.lines) else None
-    explained = line and refusal.part in ("world", "script") and refusal.word != "caps_asked"
-    for advice in advice_on(world, line, refusal.part) if explained else ():
+    explained, shown = refusal.part in ("world", "script") and refusal.word != "caps_asked", line.text if line else b""
+    for advice in advice_on(world, line, refusal.part) if line and explained else ():
         instead = advice.instead if advice.instead and accepts(player, text, refusal.line, advice.instead) else ()
         if instead or not advice.doubtful:
-            return Explanation(refusal.line, advice.message, line.text, advice.column, advice.length, instead)
+            return Explanation(refusal.line, advice.message, shown, advice.column, advice.length, instead)
     finding = explain_line(world, refusal.line, refusal.part, refusal.word)
-    return Explanation(refusal.line, finding.message, line.text if line else b"", finding.column, finding.length)
+    return Explanation(refusal.line, finding.message, shown, finding.column, finding.length)
 
 
 def explain(text: bytes, refusal: Optional[Refusal], name: str, player: Player) -> List[str]:

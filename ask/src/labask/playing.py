@@ -17,7 +17,8 @@ from functools import cached_property
 from typing import IO, Any, Dict, Iterable, Iterator, List, Optional, Sequence, Set, Tuple
 
 from labask.effort import Effort
-from labask.worlds import MAX_INPUT, UTILITIES, Word, quoted, split_words
+from labask.kernel_profile import MAX_DESCRIPTION_NUMBER, MAX_INPUT
+from labask.worlds import UTILITIES, Word, quoted, split_words
 
 STATUS_ACCEPTED = 0
 STATUS_REFUSED = 2
@@ -27,7 +28,6 @@ VERSION = re.compile(rb"labsys [0-9]+\.[0-9]+\.[0-9]+[^ ]*$")
 COUNTS = re.compile(rb"ok ([0-9]+) ([0-9]+) ([0-9]+)\n")
 RECORD = re.compile(rb"^[0-9]+ ", re.M)  # begins the line of a record of a trail
 LAST_LINE = re.compile(rb"^done [0-9]+\n\Z", re.M)
-MAX_NUMBERS = 65_535  # of objects and of descriptions of a label
 FIRST_SECONDS = 10.0  # within which a program says its version
 FIRST_BYTES = 64  # of its answer that are read
 
@@ -307,7 +307,7 @@ class Session:
 
     def has_room(self, size: int, opens: int = 0) -> bool:
         """Whether lines with so many bytes and calls of `open` can be sent before a limit of the input or of descriptions comes."""
-        return self.sent + size <= MAX_INPUT and self.opened + opens <= MAX_NUMBERS
+        return self.sent + size <= MAX_INPUT and self.opened + opens <= MAX_DESCRIPTION_NUMBER
 
     def _send(self, text: bytes) -> None:
         self.sent += len(text)

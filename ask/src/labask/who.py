@@ -14,15 +14,14 @@ from typing import Any, Dict, Iterable, Iterator, List, NamedTuple, Optional, Se
 
 from labask.answers import PLAYED, Status, show_table, write_json
 from labask.effort import Effort, add_effort_arguments, effort_of
-from labask.playing import MAX_NUMBERS, Outcome, Player, Played, read_reply
+from labask.kernel_profile import MAX_DESCRIPTION_NUMBER, MAX_INPUT, MAX_LINE, MAX_PATH, MAX_PATH_NAMES, MAX_PROCESS_NUMBER
+from labask.playing import Outcome, Player, Played, read_reply
 from labask.sets import objects_named, processes_named
-from labask.worlds import MAX_INPUT, Kind, World, WorldObject, WorldProcess, parent_path, path_word, read_file, read_world, split_words
+from labask.worlds import Kind, World, WorldObject, WorldProcess, parent_path, path_word, read_file, read_world, split_words
 
-MAX_LINE, MAX_PATH, MAX_NAMES = 2_048, 1_023, 32
-MAX_PROCESSES = 4_095  # numbers of a label
 PLAY_BYTES = 1_048_576  # of a script; there are several then for the processors
 PROCESS, CHILD = "\0", "\1"  # stand for the tags of a process and its child in lines
-LONGEST_NUMBER = "4095"
+LONGEST_NUMBER = str(MAX_PROCESS_NUMBER)
 LEAST_CHILDREN = 16  # in a play; where fewer numbers are left of a label, nothing would come of many plays
 SINGLE_CALLS = "Each is about a single call at the start, not about what a process can come to do; that is asked by who --ever."
 
@@ -165,7 +164,7 @@ def can_be_asked(form: Form, target: WorldObject, longest_tag: int) -> bool:
     """Whether the lines of a form are short enough, and their paths have few enough names."""
     inside = target.kind is Kind.DIRECTORY and form.right is not Right.LIST
     names, size = target.path.count(b"/") + inside, len(target.path) + 8 * inside
-    return names <= MAX_NAMES and size <= MAX_PATH and max(map(len, form.lines)) + longest_tag <= MAX_LINE
+    return names <= MAX_PATH_NAMES and size <= MAX_PATH and max(map(len, form.lines)) + longest_tag <= MAX_LINE
 
 
 @dataclass(frozen=True)
@@ -216,12 +215,12 @@ class Drawn:
 
     def forks(self, label: str) -> bool:
         """Whether enough numbers are left at the start that children are made."""
-        return self.at_start[label].processes + LEAST_CHILDREN <= MAX_PROCESSES
+        return self.at_start[label].processes + LEAST_CHILDREN <= MAX_PROCESS_NUMBER
 
     def has_room(self, label: str, draws: Draws) -> bool:
         """Whether there are so many numbers of a label."""
         after = self.now[label].plus(draws)
-        return after.descriptions <= MAX_NUMBERS and (after.processes <= MAX_PROCESSES or not draws.processes)
+        return after.descriptions <= MAX_DESCRIPTION_NUMBER and (after.processes <= MAX_PROCESS_NUMBER or not draws.processes)
 
     def draw(self, label: str, draws: Draws) -> None:
         """Draws so many numbers of a label."""
