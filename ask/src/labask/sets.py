@@ -1,8 +1,8 @@
 """Which objects and processes a word of the command line names: one, those of a pattern, or those of a label.
 
-`/wards/*` names what is in a directory and `/wards/**` all that is below it; `*` and `?` stand for bytes of one name, and `**` for
-any names, also none. `label:LABEL` names what has this label. A path that is there names that object alone, also where it has
-such signs.
+`/wards/*` names what is in a directory and `/wards/**` all that is below it. `*` and `?` stand for bytes of one name, and `/**/` for
+any names between two, or none. `label:LABEL` names what has this label. A path that is there names that object alone, also where it
+has such signs.
 """
 import re
 from typing import List, Optional, Pattern, TypeVar
