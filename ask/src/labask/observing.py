@@ -5,7 +5,7 @@ script would draw, and no reply to the script changes; `Observed.play` compares 
 """
 import dataclasses
 from dataclasses import dataclass, field
-from typing import Dict, Iterator, Optional, Tuple
+from typing import Dict, Iterator, List, Optional, Tuple
 
 from labask.capability_texts import read_sets
 from labask.playing import Outcome, Player, PlayingFault, Reply, Session
@@ -13,6 +13,7 @@ from labask.signatures import CAPABILITIES
 from labask.worlds import MAX_LINE, ScriptLine, World, canonical_path, path_word, quoted
 
 OBSERVER_CAPS = "cap_dac_read_search,cap_mac_read=ep"
+QUESTION_BYTES = 16_384  # of the questions about a call, beside those by which objects are looked at
 
 
 class NoObserver(PlayingFault):
@@ -20,6 +21,13 @@ class NoObserver(PlayingFault):
 
     def __init__(self) -> None:
         super().__init__("the world has as many levels, categories and grades as there may be; none is left for an observer")
+
+
+class NoRoom(PlayingFault):
+    """The world and the script have nearly as many bytes as an input may have."""
+
+    def __init__(self) -> None:
+        super().__init__("the world and its script are so long that no question fits between the calls, within the limit of an input")
 
 
 @dataclass(frozen=True)
@@ -109,8 +117,10 @@ class Observed:
 
     def __init__(self, world: World, player: Player):
         self.world = world
-        head, self.observer = with_observer(world)
-        self.session = Session(player, head)
+        self.player = player
+        self.head, self.observer = with_observer(world)
+        self.session = Session(player, self.head)
+        self.played: List[str] = []
         root = world.objects[0].number
         self.followed = {each.tag: Followed((root, b"/")) for each in world.processes}
         self.made: Dict[str, int] = {}
@@ -122,12 +132,24 @@ class Observed:
     def __exit__(self, *given: object) -> None:
         self.session.__exit__(*given)
 
+    def make_room(self, size: int) -> None:
+        """Begins the run again with the calls of the script alone, where so many bytes more would be beyond the limit of an input."""
+        if self.session.has_room(size):
+            return
+        self.session.__exit__(None, None, None)
+        self.session = Session(self.player, self.head)
+        self.session.__enter__()
+        self.session.calls(self.played)
+        if not self.session.has_room(size):
+            raise NoRoom()
+
     # ---- questions
 
     def stat(self, path: bytes) -> Optional[ObjectFacts]:
         """What is at an absolute path, or None where nothing is."""
         if path.count(b"/") > 32 or len(path) > 1_023 or len(path_word(path)) > 2_000:
             return None
+        self.make_room(QUESTION_BYTES)
         reply = self.session.call(f"{self.observer} stat {path_word(path)}")
         if reply.outcome is not Outcome.DONE:
             return None
@@ -172,13 +194,14 @@ class Observed:
 
     def at_place(self, line: ScriptLine, reply: Reply) -> Optional[ObjectFacts]:
         """The object at the place of a denial; None where the place is that of a process."""
-        if reply.place == "fd":
+        place = reply.place or ""
+        if place == "fd":
             opened = self.followed[line.tag].descriptors.get(int(line.arguments[0].value))
             return self.descriptor(line, opened) if opened else None
-        if not reply.place[1:].isdigit():
+        if not place[1:].isdigit():
             return None
-        given = reply.path if reply.path is not None else line.arguments[reply.place[0] == "q"].value
-        return self.on_walk(line.tag, given, int(reply.place[1:]))
+        given = reply.path if reply.path is not None else line.arguments[place[0] == "q"].value
+        return self.on_walk(line.tag, given, int(place[1:]))
 
     def descriptor(self, line: ScriptLine, opened: Opened) -> ObjectFacts:
         """The object that a descriptor refers to: as the caller answers, or as the observer finds it."""
@@ -204,7 +227,10 @@ class Observed:
     def play(self, line: ScriptLine) -> Iterator[Reply]:
         """Plays the calls of a line of the script one by one, and follows what their replies say. A reply has the call's number."""
         for number in range(line.first_call, line.first_call + line.calls):
-            reply = dataclasses.replace(self.session.call(line.single(number)), number=number)
+            text = line.single(number)
+            self.make_room(len(text) + QUESTION_BYTES)
+            self.played.append(text)
+            reply = dataclasses.replace(self.session.call(text), number=number)
             if reply.outcome is Outcome.DONE:
                 self.follow(line, reply)
             yield reply
@@ -225,7 +251,7 @@ class Observed:
     def follow_path(self, line: ScriptLine, reply: Reply, facts: Optional[ObjectFacts]) -> None:
         """Follows a call that changed to, opened or made what is at a path."""
         one = self.followed[line.tag]
-        if facts is None:
+        if facts is None or facts.path is None:
             return
         if line.call == "chdir":
             one.directory = (facts.number, facts.path)

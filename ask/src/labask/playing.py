@@ -307,7 +307,7 @@ class Session:
 
     def has_room(self, size: int, opens: int = 0) -> bool:
         """Whether lines with so many bytes and calls of `open` can be sent before a limit of the input or of descriptions comes."""
-        return self.sent + size <= MAX_INPUT and self.opened + opens <= MAX_DESCRIPTION_NUMBER
+        return self.sent + size <= MAX_INPUT and (not opens or self.opened + opens <= MAX_DESCRIPTION_NUMBER)
 
     def _send(self, text: bytes) -> None:
         self.sent += len(text)
