@@ -17,12 +17,12 @@ def program() -> str:
     return os.environ["LABSYS"]
 
 
-def labask(*words: "str | os.PathLike[str]", given: bytes = b"", status: int = 0) -> Tuple[bytes, str]:
-    """The output and the messages of `labask`, which is to end with this status."""
+def labask(*words: "str | os.PathLike[str]", given: bytes = b"", status: Optional[int] = 0) -> Tuple[bytes, str]:
+    """The output and the messages of `labask`, which is to end with this status; with None it is to answer yes or no."""
     done = subprocess.run([sys.executable, str(LABASK), *map(os.fspath, words)], input=given, stdout=subprocess.PIPE,
                           stderr=subprocess.PIPE, check=False)
     said = done.stderr.decode()
-    assert done.returncode == status, f"labask {' '.join(map(str, words))}: status {done.returncode}, not {status}: {said}"
+    assert done.returncode == status or status is None and done.returncode in (0, 3), f"labask {' '.join(map(str, words))}: status {done.returncode}, not {status}: {said}"
     return done.stdout, said
 
 

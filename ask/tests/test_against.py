@@ -109,8 +109,9 @@ def compared(folder, world, lines):
     (folder / "log").write_text("".join(numbered(line) + "\n" for line in lines))
     run = labask("trace", folder / "world", folder / "log")[0]
     (folder / "run").write_bytes(run)
-    found = json.loads(labask("why", folder / "run", "--against", folder / "log", "--json")[0])
-    return {each["log_line"]: each for each in found["calls"]}, labask("why", folder / "run", "--against", folder / "log")[0], run
+    found = json.loads(labask("why", folder / "run", "--against", folder / "log", "--json", status=None)[0])
+    text = labask("why", folder / "run", "--against", folder / "log", status=None)[0]
+    return {each["log_line"]: each for each in found["calls"]}, text, run
 
 
 @pytest.fixture(scope="module")

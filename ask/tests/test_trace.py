@@ -112,7 +112,7 @@ def compared(world, log, folder):
     (folder / "world").write_bytes(world)
     run, messages = labask("trace", folder / "world", log)
     (folder / "run").write_bytes(run)
-    return run, json.loads(labask("why", folder / "run", "--against", log, "--json")[0])
+    return run, json.loads(labask("why", folder / "run", "--against", log, "--json", status=None)[0])
 
 
 def judge(run, found, due):

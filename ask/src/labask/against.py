@@ -5,17 +5,20 @@ import re
 from dataclasses import dataclass
 from typing import Any, Dict, Iterator, List, Optional, Sequence
 
-from labask.answers import NOT_ABSENT, PLAYED, WrongWords, write_json
-from labask.observing import NoObserver, Observed
+from labask.answers import NOT_ABSENT, PLAYED, Status, WrongWords, write_json
+from labask.check import counted
+from labask.effort import Effort
+from labask.observing import NoObserver
 from labask.playing import Played, Player, Reply
+from labask.shortening import short
 from labask.strace.comparing import Comparison, Verdict, compare, note_tags
 from labask.strace.log import Log, read_log
 from labask.strace.script import shown
 from labask.strace.values import DIGITS
+from labask.why import LISTED, Asked, Asker, Explained
 from labask.worlds import ScriptLine, World, read_file
 
 COMMENT = re.compile(rb"# (%b)(: |, )" % DIGITS)
-DONE = 0
 EXPLAINED = 10
 
 
@@ -55,25 +58,92 @@ def compare_all(world: World, log: Log, replies: Sequence[Reply]) -> List[Compar
     return found
 
 
-def explanations(world: World, played: Played, player: Player, compared: Sequence[Comparison]) -> Dict[int, Any]:
-    """What `why` says of the first calls that a check denied here alone, by their numbers: to try each takes a run of its own."""
-    from labask.why import Asker
+class Report:
+    """What is said of calls that are compared: why the first ones are denied here, and which come from an earlier one."""
 
-    numbers = sorted(each.reply.number for each in compared if each.verdict is Verdict.DENIED)[:EXPLAINED]
-    found: Dict[int, Any] = {}
+    def __init__(self, compared: Sequence[Comparison], explained: Sequence[Explained], effort: Effort):
+        self.compared, self.effort = compared, effort
+        self.differing = [each for each in compared if each.verdict in (Verdict.DENIED, Verdict.OTHER)]
+        by_number = {each.reply.number: each for each in self.differing}
+        self.explained = {each.reply.number: each for each in explained if each.tried}
+        self.followers: Dict[int, List[Comparison]] = {}
+        self.causes: Dict[int, int] = {}
+        for each in explained:
+            own = [by_number[one.call.reply.number] for one in each.followers if one.call.reply.number in by_number]
+            self.followers[each.reply.number] = own
+            self.causes.update((one.reply.number, each.reply.number) for one in own)
+
+    # ---- as text
+
+    def lines(self) -> Iterator[str]:
+        """The answer as text: the calls that are denied here, then the other differences, then all in numbers."""
+        for verdict in (Verdict.DENIED, Verdict.OTHER):
+            for each in self.differing:
+                if each.verdict is verdict and each.reply.number not in self.causes:
+                    yield from self.difference(each)
+        yield f"{len(self.compared)} calls of the log were played"
+        yield from (f"  {count} {what}" for what, count in counts(self.compared).items())
+        yield from self.remarks()
+
+    def difference(self, each: Comparison) -> Iterator[str]:
+        """A call that differs, with what is said of it."""
+        yield f"{each.verdict.value}, line {each.call.line} of the log: {shown(each.call)}"
+        more, reply = self.explained.get(each.reply.number), each.reply
+        if each.verdict is Verdict.DENIED and more is not None:
+            yield from (f"  {line}" for line in more.own_lines())
+        else:
+            yield f"  call {reply.number}: {reply.tag} {reply.call}: {short(reply.text)}"
+        if each.verdict is Verdict.OTHER:
+            yield f"    {each.text}"
+        yield from self.follower_lines(self.followers.get(reply.number, ()))
+
+    def follower_lines(self, followers: Sequence[Comparison]) -> Iterator[str]:
+        """The calls that come from one that is denied here: they are done where it is done."""
+        if followers:
+            yield "    where this call is done, these are done too:"
+        for each in followers[:LISTED]:
+            yield f"      line {each.call.line} of the log: {shown(each.call)}: here {each.reply.text}"
+        if len(followers) > LISTED:
+            yield f"      and {len(followers) - LISTED} more"
+
+    def remarks(self) -> Iterator[str]:
+        """What is said besides of calls that are denied here."""
+        denied = [each for each in self.differing if each.verdict is Verdict.DENIED]
+        firsts = [each for each in denied if each.reply.number not in self.causes]
+        if self.causes:
+            yield f"{counted(len(self.causes), 'call')} of these {'differs' if len(self.causes) == 1 else 'differ'} " \
+                  "only since an earlier call is denied here."
+        if len(firsts) > len(self.explained):
+            yield f"The first {len(self.explained)} of the {len(firsts)} calls that are denied here are explained."
+        if denied:
+            yield "Behind a denial the script goes on as the log does; the program itself may do something else."
+
+    # ---- as JSON
+
+    def as_json(self) -> Dict[str, Any]:
+        """The answer for `--json`."""
+        return {"played": True, "stopped": self.effort.stopped, "calls": list(map(self.one_as_json, self.compared)),
+                "counts": counts(self.compared)}
+
+    def one_as_json(self, each: Comparison) -> Dict[str, Any]:
+        """A call that was compared, as JSON has it."""
+        more = self.explained.get(each.reply.number)
+        return {"log_line": each.call.line, "log": shown(each.call), "call": each.reply.number, "reply": each.reply.text,
+                "verdict": each.verdict.value, "text": each.text, "cause": self.causes.get(each.reply.number),
+                "why": more.as_json() if more else None}
+
+
+def explanations(world: World, played: Played, player: Player, compared: Sequence[Comparison], effort: Effort) -> List[Explained]:
+    """What `why` says of calls that a check denied here alone. The first ones are tried again: each takes a run of its own."""
+    numbers = frozenset(each.reply.number for each in compared if each.verdict is Verdict.DENIED)
     if not numbers:
-        return found
-    asker = Asker(world, played, player)
+        return []
     try:
-        with Observed(world, player) as observed:
-            for line in (line for line in world.script if line.first_call <= numbers[-1]):
-                for reply in observed.play(line):
-                    if reply.number in numbers:
-                        found[reply.number] = asker.explain(observed, line, reply)
+        asker = Asker(world, played, player, effort, in_step=True)
+        found = asker.observe(Asked(numbers))
     except NoObserver:
-        pass
-    finally:
-        asker.trials.close()
+        return []
+    asker.try_again(found, EXPLAINED)
     return found
 
 
@@ -85,40 +155,14 @@ def counts(compared: Sequence[Comparison]) -> Dict[str, int]:
     return dict(found.most_common())
 
 
-def lines_of(compared: Sequence[Comparison], explained: Dict[int, Any]) -> Iterator[str]:
-    """The answer as text: the calls that are denied here, then the other differences, then all in numbers."""
-    for verdict in (Verdict.DENIED, Verdict.OTHER):
-        for each in (each for each in compared if each.verdict is verdict):
-            yield f"{verdict.value}, line {each.call.line} of the log: {shown(each.call)}"
-            more = explained.get(each.reply.number)
-            reply = each.reply
-            text = list(more.lines()) if more else [f"call {reply.number}: {reply.tag} {reply.call}: {reply.text}"]
-            yield from (f"  {line}" for line in (text if verdict is Verdict.DENIED else [text[0], f"  {each.text}"]))
-    yield f"{len(compared)} calls of the log were played"
-    yield from (f"  {count} {what}" for what, count in counts(compared).items())
-    denied = sum(each.verdict is Verdict.DENIED for each in compared)
-    if denied > len(explained):
-        yield f"The first {len(explained)} of the {denied} calls that are denied here are explained."
-    if denied:
-        yield "Behind a denial the script goes on as the log does; the program itself may do something else."
-
-
-def as_json(compared: Sequence[Comparison], explained: Dict[int, Any]) -> Dict[str, Any]:
-    """The answer for `--json`."""
-    def one(each: Comparison) -> Dict[str, Any]:
-        more = explained.get(each.reply.number)
-        return {"log_line": each.call.line, "log": shown(each.call), "call": each.reply.number, "reply": each.reply.text,
-                "verdict": each.verdict.value, "text": each.text, "why": more.as_json() if more else None}
-    return {"played": True, "calls": [one(each) for each in compared], "counts": counts(compared)}
-
-
-def answer(arguments: argparse.Namespace, player: Player, world: World, played: Played) -> int:
+def answer(arguments: argparse.Namespace, player: Player, world: World, played: Played, effort: Effort) -> int:
     """Compares the replies of a run with a log, and says where they differ."""
     compared = compare_all(world, read_log(read_file(arguments.against)), played.replies)
-    explained = explanations(world, played, player, compared)
+    report = Report(compared, explanations(world, played, player, compared, effort), effort)
+    effort.clear()
     if arguments.json:
-        write_json(as_json(compared, explained))
-        return DONE
-    print("\n".join(lines_of(compared, explained)))
-    print(f"{PLAYED} {NOT_ABSENT}" if explained else PLAYED)
-    return DONE
+        write_json(report.as_json())
+    else:
+        print("\n".join(report.lines()))
+        print(f"{PLAYED} {NOT_ABSENT}" if report.explained else PLAYED)
+    return Status.YES if report.differing else Status.NO

@@ -1,13 +1,18 @@
-"""Tries a denied call again with capabilities that the caller has not: in worlds where the caller is permitted them."""
+"""Tries a denied call again with capabilities that the caller has not: in runs in which the caller is permitted them.
+
+The process of the world from which the caller comes is permitted them from the beginning. A program that the caller or an ancestor
+executes hands them on: for that one call they are inheritable in the file and in the process. What is effective stays as it was, but
+for the call that is tried. So each call before that one is answered as in the run itself, which is compared.
+"""
 from dataclasses import dataclass, replace
-from typing import Any, Dict, FrozenSet, Iterable, List, Optional, Sequence, Tuple
+from typing import Dict, Iterable, Iterator, List, Mapping, Optional, Sequence, Set, Tuple
 
 from labask.capability_texts import Sets, read_sets
-from labask.effort import default_effort
+from labask.histories import Execution, History
+from labask.observing import with_observer
 from labask.playing import Outcome, Player, Refused, Reply, Session
 from labask.signatures import CAPABILITIES, arguments_of
-from labask.worlds import ScriptLine, World, quoted
-
+from labask.worlds import ScriptLine, World, path_word, quoted
 
 @dataclass(frozen=True)
 class Passing:
@@ -29,21 +34,18 @@ class Passing:
 
 
 @dataclass(frozen=True)
-class Lineage:
-    """How a process came to its capability sets: its first ancestor, the files that were executed on the way, and all of them."""
-    ancestor: str
-    files: Tuple[str, ...]
-    processes: FrozenSet[str]
+class Run:
+    """A run that is tried anew: its world, the replies, what its records say, and where the programs that were executed are.
 
-
-def lineage_of(tag: str, records: Sequence[Dict[str, Any]]) -> Lineage:
-    """The lineage of a process, from the records of the run."""
-    parents = {record["child"]: record["pid"] for record in records if record["event"] == "fork"}
-    processes = [tag]
-    while processes[-1] in parents:
-        processes.append(parents[processes[-1]])
-    files = [record["object"] for record in records if record["event"] == "exec" and record["pid"] in processes]
-    return Lineage(processes[-1], tuple(dict.fromkeys(files)), frozenset(processes))
+    `programs` has the absolute paths of programs by the numbers of the calls that execute them. In step, descriptors that the run
+    did not get are closed where a trial gets them, so that later ones have the numbers that they have in the run.
+    """
+    world: World
+    player: Player
+    replies: Sequence[Reply]
+    history: History
+    programs: Mapping[int, Optional[bytes]]
+    in_step: bool = False
 
 
 def listed(names: Sequence[str]) -> str:
@@ -51,34 +53,29 @@ def listed(names: Sequence[str]) -> str:
     return "all" if len(names) == len(CAPABILITIES) else ",".join(names)
 
 
-def added(caps: Optional[str], names: Sequence[str]) -> str:
-    """A capability text that permits these besides; what is effective in a file stays none or all."""
-    flags = "ep" if caps is not None and read_sets(caps).effective else "p"
-    return f"{caps} {listed(names)}+{flags}" if caps is not None else f"{listed(names)}=p"
+def caps_word(text: str) -> str:
+    """The word of a capability text."""
+    return quoted(text.encode("latin-1"))
 
 
-def granting_head(world: World, lineage: Lineage, names: Sequence[str]) -> bytes:
-    """The lines of the world up to `script`, changed so that the ancestor and what it executes is permitted these capabilities."""
-    changed: Dict[int, bytes] = {}
-    ancestor = world.processes_by_tag[lineage.ancestor]
-    line = world.lines[ancestor.line - 1]
-    changed[line.number] = with_last_word(line.text, line.words[5].column, f"{ancestor.caps} {listed(names)}+p")
-    for number in lineage.files:
-        target = world.objects_by_number.get(number)
-        if target is not None:
-            line = world.lines[target.line - 1]
-            column = line.words[7].column if target.caps is not None else len(line.text)
-            changed[line.number] = with_last_word(line.text, column, added(target.caps, names))
-    bound = next(line for line in world.lines if line.words and line.words[0].text == "bound")
-    if lineage.files:
-        kept = "" if world.bound == "none" else world.bound + ","
-        changed[bound.number] = f"bound {kept}{listed(names)}".encode("ascii")
-    return world.head(changed)
+def trial_head(world: World, ancestor: str, names: Sequence[str]) -> Tuple[bytes, str]:
+    """The lines of the world up to `script`, in which the ancestor is permitted these capabilities, and the tag of a helper.
+
+    The helper is a process with all capabilities and a label of its own, so that it draws no number that the script would draw.
+    """
+    head, observer = with_observer(world)
+    lines = head.split(b"\n")
+    process = world.processes_by_tag[ancestor]
+    line = world.lines[process.line - 1]
+    lines[line.number - 1] = with_last_word(line.text, line.words[5].column, f"{process.caps} {listed(names)}+p")
+    number, _, label = observer.partition("@")
+    lines.insert(lines.index(b"script", world.script_line or 0), f'proc {label} 0 0 - "all=ep"'.encode("ascii"))
+    return b"\n".join(lines), f"{int(number) + 1}@{label}"
 
 
 def with_last_word(text: bytes, column: int, word: str) -> bytes:
     """A line whose last word, which begins at a column, is another one between quotes."""
-    return text[:column].rstrip(b" ") + b" " + quoted(word.encode("latin-1")).encode("ascii")
+    return text[:column].rstrip(b" ") + b" " + caps_word(word).encode("ascii")
 
 
 def same(one: Reply, other: Reply) -> bool:
@@ -89,10 +86,12 @@ def same(one: Reply, other: Reply) -> bool:
 class Trial:
     """A run in which a process is permitted some capabilities besides, up to a call that is then tried."""
 
-    def __init__(self, world: World, player: Player, tag: str, names: Sequence[str], records: Sequence[Dict[str, Any]]):
-        self.world, self.tag, self.names = world, tag, names
-        self.lineage = lineage_of(tag, records)
-        self.session = Session(player, granting_head(world, self.lineage, names))
+    def __init__(self, run: Run, tag: str, names: Sequence[str]):
+        self.run, self.tag, self.names = run, tag, names
+        self.lineage: Set[str] = set(run.history.ancestors(tag))
+        ancestor = next(each for each in self.lineage if each not in run.history.parents)
+        head, self.helper = trial_head(run.world, ancestor, names)
+        self.session = Session(run.player, head)
         self.session.__enter__()
         self.reached = 0  # lines of the script that were played
         self.spent = self.departed = False
@@ -101,30 +100,49 @@ class Trial:
         """Ends the run."""
         self.session.__exit__(None, None, None)
 
-    def line_text(self, line: ScriptLine, call: int) -> str:
-        """The line of a call, where those that set the capability sets of the lineage keep what is permitted besides."""
-        if line.call != "cap_set_proc" or line.tag not in self.lineage.processes:
-            return line.single(call)
-        return f"{line.tag} cap_set_proc {quoted(f'{line.arguments[0].text} {listed(self.names)}+p'.encode('latin-1'))}"
+    def lines_of(self, line: ScriptLine, call: int) -> Iterator[Tuple[str, Optional[Reply]]]:
+        """The lines that play a call that was done, each with the reply that is due; None where it is only to be done."""
+        text, reply = line.single(call), self.run.replies[call - 1]
+        done = self.run.history.executions.get(call)
+        if line.tag not in self.lineage:
+            yield text, reply
+        elif line.call == "cap_set_proc":
+            yield f"{line.tag} cap_set_proc {caps_word(f'{line.arguments[0].text} {listed(self.names)}+p')}", reply
+        elif done is not None:
+            yield from self.handed_on(done, text, reply)
+        else:
+            yield text, reply
 
-    def advance(self, line: ScriptLine, call: int, replies: Sequence[Reply]) -> bool:
+    def handed_on(self, done: Execution, text: str, reply: Reply) -> Iterator[Tuple[str, Optional[Reply]]]:
+        """The lines that execute a program which hands on what is permitted besides; all else is as it was after them."""
+        names, path = listed(self.names), path_word(self.run.programs.get(done.call) or b"/")
+        before = self.run.history.caps_before(done.process, done.call)
+        flags = "ei" if read_sets(done.file_caps).effective else "i"
+        yield f"{self.helper} cap_set_file {path} {caps_word(f'{done.file_caps} {names}+{flags}')}", None
+        yield f"{done.process} cap_set_proc {caps_word(f'{before} {names}+ip')}", None
+        yield text, reply
+        yield f"{self.helper} cap_set_file {path} {caps_word(done.file_caps)}", None
+        yield f"{done.process} cap_set_proc {caps_word(f'{done.caps} {names}+p')}", None
+
+    def advance(self, line: ScriptLine, call: int) -> bool:
         """Plays what was done before a call; says whether it is answered as in the run itself. What was not done left no change."""
-        waiting: List[Tuple[str, Reply]] = []
-        while self.reached < len(self.world.script) and self.world.script[self.reached].line.number <= line.line.number:
-            each = self.world.script[self.reached]
+        waiting: List[Tuple[str, Optional[Reply]]] = []
+        script, replies = self.run.world.script, self.run.replies
+        while self.reached < len(script) and script[self.reached].line.number <= line.line.number:
+            each = script[self.reached]
             numbers = range(each.first_call, min(call, each.first_call + each.calls))
-            done = (replies[number - 1] for number in numbers if replies[number - 1].outcome is Outcome.DONE)
-            waiting += [(self.line_text(each, reply.number), reply) for reply in done]
+            for number in numbers:
+                waiting += self.lines_of(each, number) if replies[number - 1].outcome is Outcome.DONE else ()
             if each is line:
                 break
             self.reached += 1
         given = self.session.calls([text for text, _ in waiting])
-        return all(same(one, other) for one, (_, other) in zip(given, waiting))
+        return all(one.outcome is Outcome.DONE if due is None else same(one, due) for one, (_, due) in zip(given, waiting))
 
     def raised(self, sets: Sets, names: Iterable[str]) -> bool:
         """Makes these capabilities effective besides those of the sets; says whether that was done."""
         asked = Sets(sets.effective | frozenset(names), sets.inheritable, sets.permitted)
-        return self.session.call(f'{self.tag} cap_set_proc "{asked.written}"').outcome is Outcome.DONE
+        return self.session.call(f"{self.tag} cap_set_proc {caps_word(asked.written)}").outcome is Outcome.DONE
 
     def attempt(self, text: str) -> Reply:
         """The reply to the call; a call that is not denied may change the run, which is spent then."""
@@ -139,7 +157,8 @@ class Trial:
             return None
         sets = read_sets(asked.words[0].text)
         last = self.attempt(text)
-        best, held = None if same(last, denied) else Passing((), last), ()
+        held: Tuple[str, ...] = ()
+        best = None if same(last, denied) else Passing((), last)
         if best is not None and best.complete:
             return best
         while True:
@@ -163,14 +182,12 @@ class Trial:
                 return Passing((*held, name), reply)
         return None
 
-
 class Trials:
     """The trials of a run: for each process one at a time, made anew where the last one is spent."""
     MOST = 6
 
-    def __init__(self, world: World, player: Player, replies: Sequence[Reply], trail: bytes):
-        self.world, self.player, self.replies = world, player, replies
-        self.records = [record for record in player.select("all", trail) if record["event"] in ("fork", "exec")]
+    def __init__(self, run: Run):
+        self.run = run
         self.open: Dict[str, Trial] = {}
 
     def close(self) -> None:
@@ -186,7 +203,7 @@ class Trials:
             found.close()
             found = None
         if found is None:
-            found = Trial(self.world, self.player, line.tag, CAPABILITIES, self.records)
+            found = Trial(self.run, line.tag, CAPABILITIES)
         while len(self.open) >= self.MOST:
             self.open.pop(next(iter(self.open))).close()
         self.open[line.tag] = found
@@ -197,17 +214,22 @@ class Trials:
         trial = self.trial(line)
         found = self.tried(trial, line, denied)
         if trial.departed:
-            alone = default_effort().results(lambda name: self.alone(line, denied, (name,)), CAPABILITIES)
+            alone = (self.alone(line, denied, (name,)) for name in CAPABILITIES)
             found = next((each for each in alone if each is not None), None)
         elif found is not None and "CAPS" in arguments_of(line.call, len(line.arguments)):
             return self.reduced(line, denied, found)
         return None if found is None or not found.capabilities else found
 
+    def passed(self, line: ScriptLine, found: Passing) -> Optional[Trial]:
+        """The trial in which a call was done just now; None where it was not done, or the run departed before it."""
+        trial = self.open.get(line.tag)
+        return None if trial is None or trial.departed or found.reply.outcome is not Outcome.DONE else trial
+
     def tried(self, trial: Trial, line: ScriptLine, denied: Reply) -> Optional[Passing]:
         """What a trial finds that is played up to the call."""
         trial.spent = line.calls > 1  # the line is played in part
         try:
-            if trial.advance(line, denied.number, self.replies):
+            if trial.advance(line, denied.number):
                 return trial.passing(line.single(denied.number), denied)
         except Refused:  # a line became too long by what it permits
             pass
@@ -216,7 +238,7 @@ class Trials:
 
     def alone(self, line: ScriptLine, denied: Reply, names: Sequence[str]) -> Optional[Passing]:
         """What a trial of its own finds with some capabilities."""
-        trial = Trial(self.world, self.player, line.tag, names, self.records)
+        trial = Trial(self.run, line.tag, names)
         try:
             return self.tried(trial, line, denied)
         finally:
@@ -224,12 +246,17 @@ class Trials:
 
     def reduced(self, line: ScriptLine, denied: Reply, found: Passing) -> Passing:
         """Of a call that asks for capabilities: the same with as few permitted as it takes."""
-        permitted = list(CAPABILITIES)
-        for name in CAPABILITIES:
+        asked = read_sets(line.arguments[arguments_of(line.call, len(line.arguments)).index("CAPS")].text)
+        named = asked.effective | asked.inheritable | asked.permitted | frozenset(found.capabilities)
+        few = [name for name in CAPABILITIES if name in named]
+        permitted = few if self.enough(line, denied, found, few) else list(CAPABILITIES)
+        for name in list(permitted):
             fewer = [each for each in permitted if each != name]
-            if name in found.capabilities or not fewer:
-                continue
-            again = self.alone(line, denied, fewer)
-            if again is not None and again.capabilities == found.capabilities and same(again.reply, found.reply):
+            if name not in found.capabilities and self.enough(line, denied, found, fewer):
                 permitted = fewer
         return replace(found, permitted=tuple(name for name in permitted if name not in found.capabilities))
+
+    def enough(self, line: ScriptLine, denied: Reply, found: Passing, names: Sequence[str]) -> bool:
+        """Whether a call passes in the same way where only these capabilities are permitted besides."""
+        again = self.alone(line, denied, names) if names else None
+        return again is not None and again.capabilities == found.capabilities and same(again.reply, found.reply)

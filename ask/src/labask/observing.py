@@ -112,6 +112,15 @@ def with_observer(world: World) -> Tuple[bytes, str]:
     raise NoObserver()
 
 
+def process_facts(session: Session, tag: str) -> Optional[ProcessFacts]:
+    """What a living process of a run answers about itself; None where it does not live."""
+    replies = session.calls([f"{tag} {call}" for call in ("mac_get_proc", "getids", "cap_get_proc")])
+    if any(reply.outcome is not Outcome.DONE for reply in replies):
+        return None
+    label, ids, caps = (tuple(word.text for word in reply.words) for reply in replies)
+    return ProcessFacts(tag, label[0], ids, caps[0])
+
+
 class Observed:
     """A run of the script of a world, call by call, with questions between the calls that change nothing."""
 
@@ -178,11 +187,7 @@ class Observed:
 
     def process(self, tag: str) -> Optional[ProcessFacts]:
         """What a living process answers about itself; None where it does not live."""
-        replies = self.session.calls([f"{tag} {call}" for call in ("mac_get_proc", "getids", "cap_get_proc")])
-        if any(reply.outcome is not Outcome.DONE for reply in replies):
-            return None
-        label, ids, caps = (tuple(word.text for word in reply.words) for reply in replies)
-        return ProcessFacts(tag, label[0], ids, caps[0])
+        return process_facts(self.session, tag)
 
     def absolute(self, tag: str, path: bytes) -> Optional[bytes]:
         """The absolute path that a path of a process stands for; None where its current directory has no path."""
