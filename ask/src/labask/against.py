@@ -9,16 +9,18 @@ from labask.answers import NOT_ABSENT, PLAYED, Status, WrongWords, write_json
 from labask.check import counted
 from labask.effort import Effort
 from labask.observing import NoObserver
-from labask.playing import Played, Player, Reply
+from labask.playing import Outcome, Played, Player, Reply
 from labask.shortening import short
-from labask.strace.comparing import Comparison, Verdict, compare, note_tags
-from labask.strace.log import Log, read_log
+from labask.strace.comparing import Comparison, Verdict, compare, compare_question, note_tags
+from labask.strace.log import Call, Log, read_log
+from labask.strace.questions import answers
 from labask.strace.script import shown
 from labask.strace.values import DIGITS
 from labask.why import LISTED, Asked, Asker, Explained
 from labask.worlds import ScriptLine, World, read_file
 
 COMMENT = re.compile(rb"# (%b)(: |, )" % DIGITS)
+ASKING = re.compile(rb"# (%b), question: " % DIGITS)
 EXPLAINED = 10
 
 
@@ -49,13 +51,35 @@ def compare_all(world: World, log: Log, replies: Sequence[Reply]) -> List[Compar
     tags: Dict[int, str] = {}
     found: List[Comparison] = []
     for traced in traced_calls(world):
-        call = log.calls_by_line.get(traced.log_line)
-        if call is None:
-            raise WrongWords(f"the script names line {traced.log_line} of the log, where no call begins")
+        call = call_at(log, traced.log_line)
         own = [replies[line.first_call - 1] for line in traced.lines]
         note_tags(call, own, tags)
         found.append(compare(call, own, tags))
     return found
+
+
+def call_at(log: Log, number: int) -> Call:
+    """The call of the log that begins at a line which the script names."""
+    call = log.calls_by_line.get(number)
+    if call is None:
+        raise WrongWords(f"the script names line {number} of the log, where no call begins")
+    return call
+
+
+def compare_questions(world: World, log: Log, replies: Sequence[Reply], player: Player) -> List[Comparison]:
+    """The calls of the log that ask for rights, each compared with the answer to its question, which is asked anew."""
+    found: List[Comparison] = []
+    for each in answers(world, player, replies):
+        named = ASKING.match(world.lines[each.line - 2].text)
+        if named and each.reply is not None:
+            found.append(compare_question(call_at(log, int(named[1])), each.question.text, each.reply))
+    return found
+
+
+def compare_whole(world: World, log: Log, replies: Sequence[Reply], player: Player) -> List[Comparison]:
+    """All calls of the log that the script plays or asks about, compared, in the order of the log."""
+    compared = compare_all(world, log, replies) + compare_questions(world, log, replies, player)
+    return sorted(compared, key=lambda each: each.call.order)
 
 
 class Report:
@@ -64,7 +88,7 @@ class Report:
     def __init__(self, compared: Sequence[Comparison], explained: Sequence[Explained], effort: Effort):
         self.compared, self.effort = compared, effort
         self.differing = [each for each in compared if each.verdict in (Verdict.DENIED, Verdict.OTHER)]
-        by_number = {each.reply.number: each for each in self.differing}
+        by_number = {each.reply.number: each for each in self.differing if each.question is None}
         self.explained = {each.reply.number: each for each in explained if each.tried}
         self.followers: Dict[int, List[Comparison]] = {}
         self.causes: Dict[int, int] = {}
@@ -79,37 +103,48 @@ class Report:
         """The answer as text: the calls that are denied here, then the other differences, then all in numbers."""
         for verdict in (Verdict.DENIED, Verdict.OTHER):
             for each in self.differing:
-                if each.verdict is verdict and each.reply.number not in self.causes:
+                if each.verdict is verdict and self.cause(each) is None:
                     yield from self.difference(each)
-        yield f"{len(self.compared)} calls of the log were played"
+        asked = sum(each.question is not None for each in self.compared)
+        yield f"{len(self.compared) - asked} calls of the log were played" + (f", and {counted(asked, 'question')} asked" if asked else "")
         yield from (f"  {count} {what}" for what, count in counts(self.compared).items())
         yield from self.remarks()
 
     def difference(self, each: Comparison) -> Iterator[str]:
         """A call that differs, with what is said of it."""
         yield f"{each.verdict.value}, line {each.call.line} of the log: {shown(each.call)}"
-        more, reply = self.explained.get(each.reply.number), each.reply
+        more, reply = self.why(each), each.reply
         if each.verdict is Verdict.DENIED and more is not None:
             yield from (f"  {line}" for line in more.own_lines())
+        elif each.question is not None:
+            yield f"  question {each.question}: {'ok' if reply.outcome is Outcome.DONE else reply.text}"
         else:
             yield f"  call {reply.number}: {reply.tag} {reply.call}: {short(reply.text)}"
         if each.verdict is Verdict.OTHER:
             yield f"    {each.text}"
-        yield from self.follower_lines(self.followers.get(reply.number, ()))
+        yield from self.follower_lines(() if each.question is not None else self.followers.get(reply.number, ()))
+
+    def cause(self, each: Comparison) -> Optional[int]:
+        """The call that a call comes from."""
+        return None if each.question is not None else self.causes.get(each.reply.number)
+
+    def why(self, each: Comparison) -> Optional[Explained]:
+        """What is said of a call."""
+        return None if each.question is not None else self.explained.get(each.reply.number)
 
     def follower_lines(self, followers: Sequence[Comparison]) -> Iterator[str]:
         """The calls that come from one that is denied here: they are done where it is done."""
         if followers:
             yield "    where this call is done, these are done too:"
         for each in followers[:LISTED]:
-            yield f"      line {each.call.line} of the log: {shown(each.call)}: here {each.reply.text}"
+            yield f"      line {each.call.line} of the log: {shown(each.call)}; here {short(each.reply.text)}"
         if len(followers) > LISTED:
             yield f"      and {len(followers) - LISTED} more"
 
     def remarks(self) -> Iterator[str]:
         """What is said besides of calls that are denied here."""
-        denied = [each for each in self.differing if each.verdict is Verdict.DENIED]
-        firsts = [each for each in denied if each.reply.number not in self.causes]
+        denied = [each for each in self.differing if each.verdict is Verdict.DENIED and each.question is None]
+        firsts = [each for each in denied if self.cause(each) is None]
         if self.causes:
             yield f"{counted(len(self.causes), 'call')} of these {'differs' if len(self.causes) == 1 else 'differ'} " \
                   "only since an earlier call is denied here."
@@ -127,15 +162,16 @@ class Report:
 
     def one_as_json(self, each: Comparison) -> Dict[str, Any]:
         """A call that was compared, as JSON has it."""
-        more = self.explained.get(each.reply.number)
-        return {"log_line": each.call.line, "log": shown(each.call), "call": each.reply.number, "reply": each.reply.text,
-                "verdict": each.verdict.value, "text": each.text, "cause": self.causes.get(each.reply.number),
+        more = self.why(each)
+        return {"log_line": each.call.line, "log": shown(each.call), "call": None if each.question else each.reply.number,
+                "question": each.question, "reply": each.reply.text,
+                "verdict": each.verdict.value, "text": each.text, "cause": self.cause(each),
                 "why": more.as_json() if more else None}
 
 
 def explanations(world: World, played: Played, player: Player, compared: Sequence[Comparison], effort: Effort) -> List[Explained]:
     """What `why` says of calls that a check denied here alone. The first ones are tried again: each takes a run of its own."""
-    numbers = frozenset(each.reply.number for each in compared if each.verdict is Verdict.DENIED)
+    numbers = frozenset(each.reply.number for each in compared if each.verdict is Verdict.DENIED and each.question is None)
     if not numbers:
         return []
     try:
@@ -157,7 +193,7 @@ def counts(compared: Sequence[Comparison]) -> Dict[str, int]:
 
 def answer(arguments: argparse.Namespace, player: Player, world: World, played: Played, effort: Effort) -> int:
     """Compares the replies of a run with a log, and says where they differ."""
-    compared = compare_all(world, read_log(read_file(arguments.against)), played.replies)
+    compared = compare_whole(world, read_log(read_file(arguments.against)), played.replies, player)
     report = Report(compared, explanations(world, played, player, compared, effort), effort)
     effort.clear()
     if arguments.json:

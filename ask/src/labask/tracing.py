@@ -3,21 +3,19 @@ import argparse
 import os
 import re
 import sys
-from typing import Optional, Set
+from typing import Any, Dict, Optional, Set
 
-from labask.answers import write_json
+from labask.answers import Status, write_json
 from labask.command_words import named
 from labask.directories import OTHERS
 from labask.playing import Player, Session
 from labask.strace.follow import begin, ends_of, first_directory, first_process, follow
 from labask.strace.following import Following
 from labask.strace.log import Log, read_log
+from labask.strace.questions import answers
 from labask.strace.script import Script
 from labask.worlds import Kind, World, read_file, read_world, split_words
 
-DONE = 0
-USAGE = 1
-REFUSED = 2
 INPUT_BYTES = 16777216
 ROOT = re.compile(rb"# root (\".*\")$")
 LEFT_OUT = re.compile(rb"# left out: (?:" + b"|".join(what.value.encode("ascii") for what in OTHERS.values()) + rb") (.*)$")
@@ -94,14 +92,29 @@ def trace(world: World, log: Log, arguments: argparse.Namespace, player: Player)
         following = make_following(script, world, root, log)
         begin(following, pid, tag, start or first_directory(log, pid) or root, arguments.umask)
         follow(following, log)
+    if script.questions:
+        add_answers(script, world, player)
     return script
 
 
-def as_json(script: Script) -> dict:
+def add_answers(script: Script, world: World, player: Player) -> None:
+    """Adds to the questions of a script their answers, which are played when the whole script is known."""
+    text = world_with(world, script)
+    before = len(world.lines) + 1
+    for each in answers(read_world(text), player, player.play_accepted(text).replies):
+        script.answer(each.line - before, each.text)
+
+
+def world_with(world: World, script: Script) -> bytes:
+    """The world with the script behind it."""
+    return world.text + b"".join(line + b"\n" for line in script.lines)
+
+
+def as_json(script: Script) -> Dict[str, Any]:
     """The answer for `--json`."""
     return {"script": [line.decode("latin-1") for line in script.lines], "played": script.played, "added": script.added,
             "left_out": {reason.value: count for reason, count in script.left_out.items()}, "no_call": dict(script.unknown),
-            "bytes_made_up": script.made_up}
+            "questions": len(script.questions), "bytes_made_up": script.made_up}
 
 
 def answer(arguments: argparse.Namespace, player: Player) -> int:
@@ -111,15 +124,15 @@ def answer(arguments: argparse.Namespace, player: Player) -> int:
         script = trace(world, log, arguments, player)
     except TraceFault as fault:
         print(f"labask: {fault}", file=sys.stderr)
-        return USAGE
+        return Status.WRONG_WORDS
     for line in script.summary():
         script.comment(line)
-    text = world.text + b"".join(line + b"\n" for line in script.lines)
+    text = world_with(world, script)
     if len(text) > INPUT_BYTES:
         print(f"labask: the script would have {len(text)} bytes, and may have {INPUT_BYTES}", file=sys.stderr)
-        return REFUSED
+        return Status.REFUSED
     if arguments.json:
         write_json(as_json(script))
     else:
         sys.stdout.buffer.write(text)
-    return DONE
+    return Status.DONE

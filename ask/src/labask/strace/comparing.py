@@ -23,11 +23,15 @@ class Verdict(enum.Enum):
 
 @dataclass(frozen=True)
 class Comparison:
-    """A call of the log, the replies to its lines, and how they compare; `text` says in what they differ."""
+    """A call of the log, the replies to its lines, and how they compare; `text` says in what they differ.
+
+    Of a call that asks for rights `question` has the question, and `replies` the one that counts, which is to no line of the script.
+    """
     call: Call
     replies: Tuple[Reply, ...]
     verdict: Verdict
     text: str = ""
+    question: Optional[str] = None
 
     @property
     def reply(self) -> Reply:
@@ -290,6 +294,17 @@ def compare(call: Call, replies: Sequence[Reply], tags: Dict[int, str]) -> Compa
     except Differs as differs:
         return Comparison(call, tuple(replies), differs.verdict, differs.text)
     return Comparison(call, tuple(replies), Verdict.SAME)
+
+
+def compare_question(call: Call, question: str, reply: Reply) -> Comparison:
+    """Compares the answer to a question with that of the log."""
+    stopped = reply if reply.outcome is not Outcome.DONE else None
+    try:
+        if stopped is not None or not call.result.done:
+            compare_errors(call, stopped, reply.call)
+    except Differs as differs:
+        return Comparison(call, (reply,), differs.verdict, differs.text, question)
+    return Comparison(call, (reply,), Verdict.SAME, "", question)
 
 
 def note_tags(call: Call, replies: List[Reply], tags: Dict[int, str]) -> None:

@@ -2,17 +2,16 @@
 import dataclasses
 from typing import Callable, Dict, FrozenSet, Optional, Tuple
 
-from labask.pieces import pieces
 from labask.playing import Outcome, Reply
 from labask.strace.following import Descriptor, Following, Place, Process, base_and_path, mode_of, needed, number, number_in
 from labask.strace.log import Call
+from labask.strace.offsets import fill, lseek, moved, moved_back, to_end, write_pieces
 from labask.strace.script import Leave, Reason
 from labask.strace.values import Argument, Handle
 from labask.strace.waiting import Line, Pipe, PipeRead, PipeWrite, Waiting, nothing
 from labask.worlds import MAX_INPUT, quoted
 
 READ_BYTES = 65536
-NUMBER = 4294967295
 STAND_IN = b"?"
 Handler = Callable[[Following, Call, Process], None]
 
@@ -87,7 +86,8 @@ def open_file(following: Following, call: Call, process: Process) -> None:
         following.script.play(process.tag, "readdir", place.word)
         note_directory(process, found, place, closes)
         return
-    note_file(following, call, process, reply, Descriptor(None, place.real, following.fifo(place.path), False, closes))
+    made = Descriptor(None, place.real, following.fifo(place.path), False, closes, "O_APPEND" in opening.flags)
+    note_file(following, call, process, reply, made)
 
 
 def note_directory(process: Process, found: Optional[int], place: Place, closes: bool) -> None:
@@ -148,6 +148,12 @@ def counted(call: Call) -> int:
 def read(following: Following, call: Call, process: Process) -> None:
     """`read` and `readv`."""
     held = following.descriptor(process, call.arguments[0])
+    to_end(following, call, process, held)
+    read_from(following, call, process, held)
+
+
+def read_from(following: Following, call: Call, process: Process, held: Descriptor) -> None:
+    """Reads where a descriptor is."""
     count = counted(call)
     if held.pipe is not None:
         reading = PipeRead(Line(following, call, process, held), int(asked(held, call, count)))
@@ -189,6 +195,13 @@ def gathered(call: Call) -> Tuple[bytes, int]:
 def write(following: Following, call: Call, process: Process) -> None:
     """`write` and `writev`."""
     held = following.descriptor(process, call.arguments[0])
+    if call.result.done and call.result.number:
+        fill(following, process, held)
+    write_to(following, call, process, held)
+
+
+def write_to(following: Following, call: Call, process: Process, held: Descriptor) -> None:
+    """Writes where a descriptor is."""
     content, lacking = gathered(call)
     following.script.made_up += lacking
     if held.pipe is not None and content and call.result.done:
@@ -199,68 +212,20 @@ def write(following: Following, call: Call, process: Process) -> None:
     write_pieces(following, process, held, content, call.result.done)
 
 
-def write_pieces(following: Following, process: Process, held: Descriptor, content: bytes, whole: bool) -> None:
-    """Writes bytes in as many lines as they need, up to the first that is not done; of a call that failed one line."""
-    for piece in pieces(f"{process.tag} write {held.played} ", content):
-        reply = following.script.play(process.tag, "write", str(held.played), quoted(piece))
-        if held.pipe is not None and reply.outcome is Outcome.DONE:
-            held.pipe.held += len(piece)
-        if reply.outcome is not Outcome.DONE or not whole:
-            return
-
-
-def moved(following: Following, call: Call, process: Process, held: Descriptor, offset: int) -> int:
-    """Moves a descriptor to an offset for one call, and gives the offset that it had."""
-    following.script.besides(call.line, f"to the offset {offset}")
-    old = number_in(following.script.play(process.tag, "lseek", str(held.played), "cur", "0"))
-    if old is None or number_in(following.script.play(process.tag, "lseek", str(held.played), "set", str(offset))) is None:
-        raise Leave(Reason.NO_ARGUMENT, "no such offset here")
-    return old
-
-
-def moved_back(following: Following, call: Call, process: Process, held: Descriptor, offset: int) -> None:
-    """Moves a descriptor back."""
-    following.script.besides(call.line, "back to its offset")
-    following.script.play(process.tag, "lseek", str(held.played), "set", str(offset))
-
-
-def at_offset(call: Call) -> int:
-    """The offset that a call names."""
-    offset = number(call.arguments[3])
-    if not 0 <= offset <= NUMBER:
-        raise Leave(Reason.NO_ARGUMENT)
-    return offset
-
-
 def pread(following: Following, call: Call, process: Process) -> None:
     """`pread64`, by moving there and back."""
-    held, offset = following.descriptor(process, call.arguments[0]), at_offset(call)
-    old = moved(following, call, process, held, offset)
-    read(following, call, process)
+    held = following.descriptor(process, call.arguments[0])
+    old = moved(following, call, process, held, False)
+    read_from(following, call, process, held)
     moved_back(following, call, process, held, old)
 
 
 def pwrite(following: Following, call: Call, process: Process) -> None:
     """`pwrite64`, by moving there and back."""
-    held, offset = following.descriptor(process, call.arguments[0]), at_offset(call)
-    old = moved(following, call, process, held, offset)
-    write(following, call, process)
-    moved_back(following, call, process, held, old)
-
-
-SEEKS = {"SEEK_SET": "set", "SEEK_CUR": "cur", "SEEK_END": "end"}
-
-
-def lseek(following: Following, call: Call, process: Process) -> None:
-    """`lseek`; a search for data or a hole moves to where the log says that it led."""
     held = following.descriptor(process, call.arguments[0])
-    whence, offset = call.arguments[2].text, number(call.arguments[1])
-    if whence not in SEEKS and call.result.done:
-        whence, offset = "SEEK_SET", call.result.number
-    if whence not in SEEKS or abs(offset) > NUMBER:
-        raise Leave(Reason.NO_ARGUMENT)
-    following.script.call(call)
-    following.script.play(process.tag, "lseek", str(held.played), SEEKS[whence], str(offset))
+    old = moved(following, call, process, held, True)
+    write_to(following, call, process, held)
+    moved_back(following, call, process, held, old)
 
 
 def copy(following: Following, call: Call, process: Process) -> None:
@@ -274,16 +239,24 @@ def copy(following: Following, call: Call, process: Process) -> None:
     taken, given = (each if each is not None and each.played is not None else None for each in ends)
     if taken is None and given is None:
         following.leave_unopened(source.handle, ends[0])
-    content = stand_ins(call.result.number) if taken is None else b""
-    following.script.call(call)
+    if given is not None and call.result.number:
+        fill(following, process, given)
     if taken is not None:
-        count = asked(taken, call, number(call.arguments[4 if ranged else 3]))
-        reply = following.script.play(process.tag, "read", str(taken.played), count)
-        content = reply.words[0].value if reply.outcome is Outcome.DONE else b""
-    else:
-        following.script.made_up += len(content)
+        to_end(following, call, process, taken)
+    following.script.call(call)
+    content = taken_bytes(following, call, process, taken, number(call.arguments[4 if ranged else 3]))
     if given is not None and content:
         write_pieces(following, process, given, content, True)
+
+
+def taken_bytes(following: Following, call: Call, process: Process, taken: Optional[Descriptor], count: int) -> bytes:
+    """The bytes that a call copies: those that are read here, or stand-ins for what the world does not have."""
+    if taken is None:
+        content = stand_ins(call.result.number or 0)
+        following.script.made_up += len(content)
+        return content
+    reply = following.script.play(process.tag, "read", str(taken.played), asked(taken, call, count))
+    return reply.words[0].value if reply.outcome is Outcome.DONE else b""
 
 
 def copied(held: Descriptor, closes: bool) -> Descriptor:

@@ -3,13 +3,14 @@ import collections
 import re
 from typing import Dict, List, Optional
 
-from labask.strace import attributes, files, lives, names
+from labask.strace import attributes, files, lives, names, questions
 from labask.strace.following import Following, Process
 from labask.strace.log import Call, Ended, Event, Log
+from labask.strace.offsets import forget_all
 from labask.strace.script import Leave, Reason, Script
 from labask.strace.values import unescaped
 
-HANDLERS = {**files.HANDLERS, **names.HANDLERS, **attributes.HANDLERS, **lives.HANDLERS}
+HANDLERS = {**files.HANDLERS, **names.HANDLERS, **attributes.HANDLERS, **lives.HANDLERS, **questions.HANDLERS}
 WITHOUT_RESULT = ("exit", "exit_group")
 DIRECTORY = re.compile(rb"AT_FDCWD<([^>]*)>")
 
@@ -136,4 +137,5 @@ def follow(following: Following, log: Log) -> Script:
         process.waits.give_up()
         resume(following, process)
         go_on(following)
+    forget_all(following)
     return following.script

@@ -22,13 +22,28 @@ class Place:
 
 
 @dataclass
+class Seek:
+    """Where an open description is past the end of its file: the call of the log that led there, and the offset; else no call.
+
+    No offset is past the end in the world, so the call is played when something is written there.
+    """
+    call: Optional[Call] = None
+    offset: int = 0
+
+
+@dataclass
 class Descriptor:
-    """A descriptor of a process of the log: its number in the world, if it has one there, and the path of the system."""
+    """A descriptor of a process of the log: its number in the world, if it has one there, and the path of the system.
+
+    Descriptors of one description share `seek`. One that `appends` writes at the end of the file wherever its offset is.
+    """
     played: Optional[int]
     real: Optional[bytes] = None
     pipe: Optional[Pipe] = None
     directory: bool = False
     closes: bool = False
+    appends: bool = False
+    seek: Seek = field(default_factory=Seek)
 
 
 @dataclass
@@ -80,6 +95,7 @@ class Following:
     processes: Dict[int, Process] = field(default_factory=dict)
     queues: Queues = field(default_factory=Queues)
     pipes: Dict[bytes, Pipe] = field(default_factory=dict)
+    seeks: List[Seek] = field(default_factory=list)
 
     def fifo(self, path: bytes) -> Optional[Pipe]:
         """The FIFO at a path of the world, or None where something else is there."""

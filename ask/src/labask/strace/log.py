@@ -4,7 +4,8 @@ from dataclasses import dataclass, field, replace
 from functools import cached_property
 from typing import Dict, Iterator, List, Optional, Set, Tuple, Union
 
-from labask.strace.values import DIGITS, Argument, split_arguments, unescaped
+from labask.shortening import SHOWN_BYTES
+from labask.strace.values import DIGITS, Argument, cut_strings, split_arguments, unescaped
 
 TIME = rb"(?:\d\d:\d\d:\d\d(?:\.\d+)? +|\d+\.\d+ +|\( *\+ +\d+\.\d+\) +)*"
 PREFIX = re.compile(rb"(?:\[pid +(%b)\] +|(%b) +)?" % (DIGITS, DIGITS) + TIME + rb"(?:\[ *[0-9a-f?]+\] +)*")
@@ -59,8 +60,8 @@ class Call:
 
     @property
     def shown(self) -> str:
-        """The call as the log has it, in one piece."""
-        return f"{self.name}({self.text.decode('latin-1')}"
+        """The call as the log has it, in one piece, with long strings cut."""
+        return f"{self.name}({cut_strings(self.text, SHOWN_BYTES).decode('latin-1')}"
 
 
 @dataclass(frozen=True)

@@ -8,7 +8,7 @@ from labask.pieces import LINE_BYTES
 from labask.playing import Reply, Session
 from labask.strace.log import Call
 
-SHOWN = 160
+SHOWN = 400
 
 
 class Reason(enum.Enum):
@@ -50,6 +50,7 @@ class Script:
     left_out: "collections.Counter[Reason]" = field(default_factory=collections.Counter)
     unknown: "collections.Counter[str]" = field(default_factory=collections.Counter)
     made_up: int = 0
+    questions: List[int] = field(default_factory=list)
 
     def comment(self, text: str) -> None:
         """Writes a comment, of which a line holds as many bytes as it can."""
@@ -67,6 +68,18 @@ class Script:
         """Begins the lines that are a call of the log, or goes on with them behind those of others."""
         self.played += not again
         self.comment(f"{call.line}: {shown(call)}")
+
+    def ask(self, call: Call, question: str) -> None:
+        """Writes a call that asks for rights as a comment with the question, of which the answer is added later."""
+        if len(question) > LINE_BYTES // 2:
+            raise Leave(Reason.NO_ARGUMENT, "a line that is too long")
+        self.comment(f"{call.line}, question: {shown(call)}")
+        self.questions.append(len(self.lines))
+        self.comment(f"question {question}")
+
+    def answer(self, index: int, text: str) -> None:
+        """Adds the answer to the question of a line."""
+        self.lines[index] += f": {text}".encode("latin-1")
 
     def besides(self, line: int, text: str) -> None:
         """Begins lines that are no call of the log, but keep what is followed in step."""
@@ -92,6 +105,8 @@ class Script:
     def summary(self) -> List[str]:
         """What was played and what was left out, in numbers."""
         lines = [f"{self.played} calls of the log are played, with {self.added} additions that keep what is followed in step"]
+        if self.questions:
+            lines.append(f"{len(self.questions)} calls of the log ask for rights, and are questions")
         lines += [f"{count} left out, {reason.value}" for reason, count in self.left_out.most_common()]
         if self.unknown:
             names = ", ".join(f"{name} {count}" for name, count in self.unknown.most_common())

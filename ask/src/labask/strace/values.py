@@ -12,6 +12,8 @@ DIGITS = rb"\d{1,23}"
 NUMBER = re.compile(rb"(-?%b|0x[0-9a-f]{1,23})(?: |$|/)" % DIGITS)
 DESCRIPTOR = re.compile(rb"(-?%b|AT_FDCWD)(?:<(.*)>(?:\(deleted\))?)?$" % DIGITS, re.S)
 PRODUCT = re.compile(rb"%b(?:\*%b){0,3}$" % (DIGITS, DIGITS))
+ITEM = re.compile(rb"\\(?:x[0-9a-fA-F]{2}|[0-7]{1,3}|.)|[^\\]", re.S)
+LITERAL = re.compile(rb'"((?:[^"\\]|\\.)*)"(\.\.\.)?', re.S)
 WORKING = -100
 DELETED = b" (deleted)"
 
@@ -24,6 +26,18 @@ def unescaped(text: bytes) -> bytes:
             return bytes([int(item[1:], 16)])
         return bytes([int(item, 8) & 255]) if item[:1] in b"01234567" else LETTERS.get(item, item)
     return ESCAPE.sub(one, text)
+
+
+def cut_strings(text: bytes, most: int) -> bytes:
+    """A text in which each string is cut to so many bytes, with the number of bytes that the log has of it."""
+    def one(found: "re.Match[bytes]") -> bytes:
+        if len(found[1]) <= most:
+            return found[0]
+        items = ITEM.findall(found[1])
+        if len(items) <= most:
+            return found[0]
+        return b'"%b"... (%d bytes%b)' % (b"".join(items[:most]), len(items), b" and more" if found[2] else b"")
+    return LITERAL.sub(one, text)
 
 
 @dataclass(frozen=True)
