@@ -135,6 +135,7 @@ def test_descriptors_stay_in_step(player):
     """Where a file is opened that was not, later descriptors have the numbers of the script, so that it is followed as it is."""
     lines = ['openat(AT_FDCWD</srv/site>, "top", O_RDONLY|O_DIRECTORY) = 3</srv/site/top>',
              'openat(AT_FDCWD</srv/site>, "none", O_RDONLY) = 4</srv/site/none>',
-             'openat(AT_FDCWD</srv/site>, "a", O_RDONLY) = 5</srv/site/a>', 'write(5</srv/site/a>, "x", 1) = -1 EBADF (Bad file descriptor)']
+             'openat(AT_FDCWD</srv/site>, "a", O_RDONLY) = 5</srv/site/a>',
+             'write(5</srv/site/a>, "x", 1) = -1 EBADF (Bad file descriptor)']
     found = follow(player, WORLD, log_of(lines))
     assert all(each["cause"] is None for each in report(player, found).as_json()["calls"])

@@ -122,7 +122,8 @@ def test_sets_of_calls_and_processes(tmp_path, words, numbers):
     assert [each["call"] for each in found] == numbers
 
 
-@pytest.mark.parametrize("words", (("0",), ("4",), ("1-4",), ("3-1",), ("x",), ("1-",), ("--process", "9@public"), ("--process", "label:top")))
+@pytest.mark.parametrize("words", (("0",), ("4",), ("1-4",), ("3-1",), ("x",), ("1-",), ("--process", "9@public"),
+                                   ("--process", "label:top")))
 def test_wrong_words(tmp_path, words):
     path = file_of(tmp_path, "1@public getpid\n" * 3)
     status, out, messages = labask("why", path, *words)

@@ -78,7 +78,8 @@ def test_no_formula_without_a_file(tmp_path, path, check):
 
 
 def test_call_that_no_capability_lets_pass_is_said_not_to_be_played(tmp_path, player):
-    text = HEAD.format(bound="all") + 'file /prog 0600 5 50 high "x" "cap_kill=ep"\nproc low 10 20 - "="\nscript\n1@low exec /prog/x\n1@low exec /prog\n'
+    text = HEAD.format(bound="all") + ('file /prog 0600 5 50 high "x" "cap_kill=ep"\nproc low 10 20 - "="\nscript\n'
+                                       "1@low exec /prog/x\n1@low exec /prog\n")
     path = asked_file(tmp_path, text)
     out = labask("why", path, 2)[1]
     assert "With cap_mac_read and cap_dac_execute labsys answers" in out
@@ -101,8 +102,8 @@ def random_caps(draw, process):
 def test_formula_is_what_labsys_answers(seed, player):
     draw = random.Random(seed)
     bound = ",".join(draw.sample(CAPABILITIES, draw.randint(0, 9))) or "none"
-    files = "".join(f'file /p{index} {draw.choice("0246")}755 {draw.randint(5, 9)} {draw.randint(5, 9)} low "" "{random_caps(draw, False)}"\n'
-                    for index in range(6))
+    files = "".join(f'file /p{index} {draw.choice("0246")}755 {draw.randint(5, 9)} {draw.randint(5, 9)} low "" '
+                    f'"{random_caps(draw, False)}"\n' for index in range(6))
     calls = "".join(f"1@low exec /p{draw.randrange(6)}\n" for _ in range(10))
     text = (HEAD.format(bound=bound) + files + f'proc low 10 20 - "{random_caps(draw, True)}"\nscript\n' + calls).encode()
     found = why.explain_all(read_world(text), player.play_accepted(text), player, why.Asked(frozenset(range(1, 11)), None, True))

@@ -158,13 +158,11 @@ def value_findings(name: str, word: Word, policy: Policy) -> Iterator[Finding]:
     """Faults of a value of a line of a world, by the name of its word."""
     simple: Dict[str, Callable[[str], Optional[str]]] = {"MODE": mode_fault, "UID": number_fault, "GID": number_fault,
                                                          "GROUPS": groups_fault}
-    if name in simple and simple[name](word.text):
-        yield on_word("syntax", name, word, simple[name](word.text))
-    elif name == "PATH":
-        if path_fault(word.value):
-            yield on_word("syntax", name, word, path_fault(word.value))
-        elif not word.value.startswith(b"/"):
-            yield on_word("syntax", name, word, "expected an absolute path, which begins with /")
+    message = simple[name](word.text) if name in simple else path_fault(word.value) if name == "PATH" else None
+    if message:
+        yield on_word("syntax", name, word, message)
+    elif name == "PATH" and not word.value.startswith(b"/"):
+        yield on_word("syntax", name, word, "expected an absolute path, which begins with /")
     elif name == "LABEL":
         for fault in label_faults(word.text, policy):
             yield in_word("unknown_name" if fault.unknown else "syntax", name, word, fault)
@@ -338,14 +336,11 @@ def argument_findings(call: str, name: str, word: Word, policy: Policy) -> Itera
         "MODE": lambda text: mode_fault(text, 0o777 if call == "umask" else 0o6777), "FLAGS": flags_fault, "OFFSET": offset_fault,
         **dict.fromkeys(("FD", "UID", "GID", "N"), lambda text: number_fault(text, NUMBER_LIMITS.get(call, MAX_NUMBER)
                                                                             if name == "N" else MAX_NUMBER))}
-    if name in simple:
-        message = simple[name](word.text)
-        if message:
-            yield on_word("syntax", name, word, message)
+    message = simple[name](word.text) if name in simple else path_fault(word.value) if name == "PATH" else None
+    if message:
+        yield on_word("bad_path" if name == "PATH" else "syntax", name, word, message)
     elif "|" in name and word.text not in name.split("|"):
         yield on_word("syntax", "the word", word, f"expected {' or '.join(name.split('|'))}")
-    elif name == "PATH" and path_fault(word.value):
-        yield on_word("bad_path", name, word, path_fault(word.value))
     elif name == "LABEL":
         for fault in label_faults(word.text, policy):
             yield in_word("bad_label", name, word, fault)
@@ -389,8 +384,9 @@ def script_findings(line: Line, policy: Policy) -> Iterator[Finding]:
         what = "the tag n@label is missing before the call" if tag.text in known else "a call is due after the tag"
         yield on_word("syntax", "word 1", tag, what)
         return
-    if tag_message(tag.text, policy):
-        yield on_word("bad_tag", "word 1", tag, tag_message(tag.text, policy))
+    message = tag_message(tag.text, policy)
+    if message:
+        yield on_word("bad_tag", "word 1", tag, message)
     call = line.words[1]
     if call.quoted:
         yield on_word("syntax", "word 2", call, "the word of a call is not quoted")

@@ -59,7 +59,7 @@ def root_of(world: World, given: Optional[str]) -> bytes:
 
 def tag_of(world: World, given: Optional[str]) -> str:
     """The tag of the process that a log begins with."""
-    tag = world.policy.canonical_tag(given) if given else next(iter(world.processes_by_tag), None)
+    tag = world.policy.canonical_tag(given) if given else next(iter(world.processes_by_tag), "")
     if tag not in world.processes_by_tag:
         raise TraceFault(f"the world has no process {given}" if given else "the world has no process")
     return tag

@@ -26,7 +26,8 @@ def mode_of_list(value: bytes) -> Optional[int]:
     """The permission bits of an access control list, or None where it says more than a mode."""
     if len(value) != 4 + 8 * len(SHIFTS) or struct.unpack_from("<I", value)[0] != 2:
         return None
-    entries = dict(struct.unpack_from("<HH", value, 4 + 8 * index) for index in range(len(SHIFTS)))
+    read = (struct.unpack_from("<HH", value, 4 + 8 * index) for index in range(len(SHIFTS)))
+    entries: Dict[int, int] = {tag: bits for tag, bits in read}
     return sum((entries[tag] & 7) << shift for tag, shift in SHIFTS.items()) if set(entries) == set(SHIFTS) else None
 
 

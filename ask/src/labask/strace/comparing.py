@@ -6,7 +6,7 @@ from typing import Callable, Dict, Iterator, List, Optional, Sequence, Tuple
 
 from labask.playing import Outcome, Reply
 from labask.strace.log import Call
-from labask.strace.values import Argument
+from labask.strace.values import Argument, unescaped
 
 DONE = "ok"
 MODE = 0o6777
@@ -212,7 +212,7 @@ def compare_ids(call: Call, reply: Reply, tags: Dict[int, str]) -> None:
 def compare_names(call: Call, reply: Reply, tags: Dict[int, str]) -> None:
     """Compares the names of a directory, where the log has them: those of the log are to be here."""
     listed = re.findall(rb'd_name="((?:[^"\\]|\\.)*)"', b"".join(each.written for each in call.arguments))
-    there = {Argument(b'"' + name + b'"').string.value for name in listed} - {b".", b".."}
+    there = set(map(unescaped, listed)) - {b".", b".."}
     if there - {word.value for word in reply.words}:
         raise Differs(Verdict.KNOWN, NAMES)
 
@@ -223,7 +223,7 @@ def compare_wait(call: Call, reply: Reply, tags: Dict[int, str]) -> None:
     found = re.search(r"si_pid=(\d{1,23})\b", written)
     pid = int(found[1]) if found else call.result.number
     tag, *ended = [word.text for word in reply.words]
-    if tags.get(pid, tag) != tag:
+    if pid is not None and tags.get(pid, tag) != tag:
         raise Differs(Verdict.KNOWN, ORDER)
     exited = re.search(r"WEXITSTATUS\(s\) == (\d+)|CLD_EXITED.*si_status=(\d+)", written)
     killed = re.search(r"WTERMSIG\(s\) == SIG([A-Z]+)|CLD_(?:KILLED|DUMPED).*si_status=SIG([A-Z]+)", written)
@@ -234,7 +234,7 @@ def compare_wait(call: Call, reply: Reply, tags: Dict[int, str]) -> None:
 
 def compare_process(call: Call, reply: Reply, tags: Dict[int, str]) -> None:
     """Compares the number of a process, where the log has told which that is."""
-    here, due = reply.words[0].text, tags.get(call.result.number)
+    here, due = reply.words[0].text, tags.get(call.result.number or 0)
     if due is not None and here != due:
         raise Differs(Verdict.OTHER, f"{here}, and the log means {due}")
 

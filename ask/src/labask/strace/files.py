@@ -99,8 +99,8 @@ def note_directory(process: Process, found: Optional[int], place: Place, closes:
 def note_file(following: Following, call: Call, process: Process, reply: Reply, made: Descriptor) -> None:
     """Keeps the descriptor that a reply gives; one that the log did not get is closed again."""
     made.played = number_in(reply)
-    if call.result.done:
-        process.descriptors[call.result.number] = made
+    if call.result.answer is not None:
+        process.descriptors[call.result.answer] = made
     elif made.played is not None:
         following.script.besides(call.line, "the log did not get this descriptor")
         following.script.play(process.tag, "close", str(made.played))
@@ -156,7 +156,7 @@ def read_from(following: Following, call: Call, process: Process, held: Descript
     """Reads where a descriptor is."""
     count = counted(call)
     if held.pipe is not None:
-        reading = PipeRead(Line(following, call, process, held), int(asked(held, call, count)))
+        reading = PipeRead(Line(following, call, process, held, held.pipe), int(asked(held, call, count)))
         following.queues.wait(process, Waiting(reading.step, nothing))
         return
     following.script.call(call)
@@ -181,7 +181,7 @@ def stand_ins(count: int) -> bytes:
 def gathered(call: Call) -> Tuple[bytes, int]:
     """The bytes that a call writes, and how many of them the log does not have."""
     asks = counted(call)
-    count = call.result.number if call.result.done else asks
+    count = asks if call.result.answer is None else call.result.answer
     if not call.name.endswith("v"):
         return given_bytes(call.arguments[1], min(count, asks))
     value, lacking = b"", 0
@@ -205,7 +205,7 @@ def write_to(following: Following, call: Call, process: Process, held: Descripto
     content, lacking = gathered(call)
     following.script.made_up += lacking
     if held.pipe is not None and content and call.result.done:
-        writing = PipeWrite(Line(following, call, process, held), content)
+        writing = PipeWrite(Line(following, call, process, held, held.pipe), content)
         following.queues.wait(process, Waiting(writing.step, writing.give_up, [held.pipe]))
         return
     following.script.call(call)
@@ -312,13 +312,14 @@ def pipe(following: Following, call: Call, process: Process) -> None:
     if not call.result.done:
         raise Leave(Reason.NO_ARGUMENT)
     closes = len(call.arguments) > 1 and "O_CLOEXEC" in call.arguments[1].flags
-    ends = [each.handle for each in call.arguments[0].fields.values()]
-    if None in ends:
+    given = [each.handle for each in call.arguments[0].fields.values()]
+    ends = [each.number for each in given if each is not None]
+    if len(ends) != len(given):
         raise Leave(Reason.NO_ARGUMENT)
     following.script.call(call)
     reply, made = following.script.play(process.tag, "pipe"), Pipe()
     for index, end in enumerate(ends):
-        process.descriptors[end.number] = Descriptor(number_in(reply, index), None, made, False, closes)
+        process.descriptors[end] = Descriptor(number_in(reply, index), None, made, False, closes)
 
 
 def status(following: Following, call: Call, process: Process) -> None:

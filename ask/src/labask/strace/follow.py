@@ -5,12 +5,13 @@ from typing import Dict, List, Optional
 
 from labask.strace import attributes, files, lives, names, questions
 from labask.strace.following import Following, Process
-from labask.strace.log import Call, Ended, Event, Log
+from labask.strace.log import Call, Ended, Event, Log, Other
 from labask.strace.offsets import forget_all
 from labask.strace.script import Leave, Reason, Script
 from labask.strace.values import unescaped
 
 HANDLERS = {**files.HANDLERS, **names.HANDLERS, **attributes.HANDLERS, **lives.HANDLERS, **questions.HANDLERS}
+NOBODY = -1  # the process of a line that is about none
 WITHOUT_RESULT = ("exit", "exit_group")
 DIRECTORY = re.compile(rb"AT_FDCWD<([^>]*)>")
 
@@ -84,7 +85,8 @@ def perform(following: Following, event: Event) -> None:
     """Follows an event, and then the events of a process that has begun with it later than in the log."""
     if isinstance(event, Call):
         follow_call(following, event)
-        for late in following.queues.unborn.pop(event.result.number, ()) if event.name in lives.BEGINNING else ():
+        born = event.result.number if event.name in lives.BEGINNING else None
+        for late in following.queues.unborn.pop(born, ()) if born is not None else ():
             dispatch(following, late)
     elif isinstance(event, Ended):
         lives.end(following, event)
@@ -94,7 +96,7 @@ def perform(following: Following, event: Event) -> None:
 
 def dispatch(following: Following, event: Event) -> None:
     """Follows an event, or keeps it for later where its process waits, or has not begun."""
-    pid = getattr(event, "pid", None)
+    pid = NOBODY if isinstance(event, Other) else event.pid
     process = following.processes.get(pid)
     if pid in following.queues.unborn:
         following.queues.unborn[pid].append(event)
@@ -102,8 +104,8 @@ def dispatch(following: Following, event: Event) -> None:
         perform(following, event)
     else:
         process.queue.append(event)
-        if isinstance(event, Call) and event.name in lives.BEGINNING and event.result.done:
-            following.queues.unborn[event.result.number] = collections.deque()
+        if isinstance(event, Call) and event.name in lives.BEGINNING and event.result.answer is not None:
+            following.queues.unborn[event.result.answer] = collections.deque()
 
 
 def resume(following: Following, process: Process) -> None:
@@ -134,7 +136,8 @@ def follow(following: Following, log: Log) -> Script:
             go_on(following)
     while following.queues.waiting:
         process = following.queues.waiting[0]
-        process.waits.give_up()
+        if process.waits is not None:
+            process.waits.give_up()
         resume(following, process)
         go_on(following)
     forget_all(following)

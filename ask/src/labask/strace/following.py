@@ -2,7 +2,7 @@
 import collections
 import dataclasses
 from dataclasses import dataclass, field
-from typing import Deque, Dict, List, Optional, Set
+from typing import Deque, Dict, List, NoReturn, Optional, Set, Tuple
 
 from labask.directories import unfit_path
 from labask.playing import Outcome, Reply
@@ -160,7 +160,7 @@ class Following:
             self.leave_unopened(handle, held)
         return held
 
-    def leave_unopened(self, handle: Optional[Handle], held: Optional[Descriptor]) -> None:
+    def leave_unopened(self, handle: Optional[Handle], held: Optional[Descriptor]) -> NoReturn:
         """Leaves a call out whose descriptor has no number in the world."""
         real = handle.path if handle else None
         if held is not None and held.directory:
@@ -214,6 +214,6 @@ def mode_of(argument: Argument) -> str:
     return f"{bits & 0o6777:04o}"
 
 
-def base_and_path(call: Call, index: int):
+def base_and_path(call: Call, index: int) -> Tuple[Optional[Handle], bytes]:
     """The directory and the path of a call that ends with `at`, and the other arguments."""
     return call.arguments[index].handle, needed(call.arguments[index + 1])

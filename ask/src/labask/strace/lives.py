@@ -17,17 +17,18 @@ ENDING = {"SIGTERM": "TERM", "SIGKILL": "KILL"}
 
 def fork(following: Following, call: Call, process: Process) -> None:
     """`fork`, `vfork`, and a `clone` that makes a process. One that makes a thread is followed alone."""
-    if not call.result.done:
+    born = call.result.answer
+    if born is None:
         raise Leave(Reason.NO_ARGUMENT)
     if b"CLONE_THREAD" in call.text:
         process.threads += 1
-        following.processes[call.result.number] = process
+        following.processes[born] = process
         raise Leave(Reason.FOLLOWED, "a thread")
     following.script.call(call)
     reply = following.script.play(process.tag, "fork")
-    following.processes.pop(call.result.number, None)
+    following.processes.pop(born, None)
     if reply.outcome is Outcome.DONE:
-        following.processes[call.result.number] = process.child(reply.words[0].text)
+        following.processes[born] = process.child(reply.words[0].text)
 
 
 def execute(following: Following, call: Call, process: Process) -> None:
@@ -64,7 +65,7 @@ def end(following: Following, ended: Ended) -> None:
         return
     if ended.signal is None:
         following.script.besides(ended.line, f"process {ended.pid} exited")
-        following.script.play(process.tag, "exit", str(ended.status & 255))
+        following.script.play(process.tag, "exit", str((ended.status or 0) & 255))
     else:
         following.script.besides(ended.line, f"process {ended.pid} was killed by {ended.signal}")
         following.script.play(process.tag, "kill", process.tag, ENDING.get(ended.signal, "KILL"))

@@ -36,6 +36,11 @@ class Result:
         """Whether the call was done."""
         return self.number is not None and self.error is None
 
+    @property
+    def answer(self) -> Optional[int]:
+        """The number that a call answered which was done."""
+        return self.number if self.error is None else None
+
 
 @dataclass(frozen=True)
 class Call:
@@ -148,6 +153,7 @@ class Reader:
             self.living.add(int(attached[1]))
             return
         prefix = PREFIX.match(text)
+        assert prefix is not None  # it matches no bytes too
         pid, rest = self.process_of(prefix), text[prefix.end():]
         started, resumed, ended = STARTED.match(rest), RESUMED.match(rest), ENDED.match(rest)
         if started and UNFINISHED.search(rest):

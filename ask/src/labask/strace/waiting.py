@@ -45,7 +45,7 @@ class Queues:
 
     def end(self, process: "Process") -> None:
         """Ends the waiting of a process."""
-        for pipe in process.waits.pipes:
+        for pipe in process.waits.pipes if process.waits is not None else ():
             pipe.waiting -= 1
         process.waits = None
         self.waiting.remove(process)
@@ -58,6 +58,7 @@ class Line:
     call: Call
     process: "Process"
     held: "Descriptor"
+    pipe: Pipe
     begun: bool = False
 
     def play(self, *words: str) -> Reply:
@@ -78,19 +79,19 @@ class PipeWrite:
         reply = self.line.play("write", quoted(self.left[:length]))
         if reply.outcome is Outcome.DONE:
             self.left = self.left[length:]
-            self.line.held.pipe.held += length
+            self.line.pipe.held += length
         return reply
 
     def step(self) -> bool:
         """Writes what the pipe has room for; done where nothing is left, or the reader is gone."""
         room = LINE_BYTES - len(f"{self.line.process.tag} write {self.line.held.played} ") - 2
         while self.left:
-            free = PIPE_BYTES - self.line.held.pipe.held
+            free = PIPE_BYTES - self.line.pipe.held
             if free <= 0:
                 return False
             reply = self.write(piece_length(self.left[:min(free, room)], room))
             if reply.error == "EAGAIN":
-                self.line.held.pipe.held = PIPE_BYTES
+                self.line.pipe.held = PIPE_BYTES
                 return False
             if reply.outcome is not Outcome.DONE:
                 return True
@@ -109,7 +110,7 @@ class PipeRead:
 
     def step(self) -> bool:
         """Reads what is there; done where that is all, or where nobody waits to write more."""
-        pipe = self.line.held.pipe
+        pipe = self.line.pipe
         if self.line.begun and not pipe.held and pipe.waiting:
             return False
         reply = self.line.play("read", str(self.wanted))
