@@ -16,7 +16,7 @@ _labask() {
     '') options="--labsys --help --version" ;;
     check) options="--all --least" ;;
     who) options="--process --ever --jobs --time --quiet" ;;
-    why) options="--against" ;;
+    why) options="--against --process --jobs --time --quiet" ;;
     flow) options="--depth --without" ;;
     cuts) options="--apply" ;;
     page) options="--output --label" ;;

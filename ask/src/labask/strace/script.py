@@ -106,7 +106,9 @@ class Script:
         """What was played and what was left out, in numbers."""
         lines = [f"{self.played} calls of the log are played, with {self.added} additions that keep what is followed in step"]
         if self.questions:
-            lines.append(f"{len(self.questions)} calls of the log ask for rights, and are questions")
+            one = len(self.questions) == 1
+            asking = "call of the log asks for rights, and is a question" if one else "calls of the log ask for rights, and are questions"
+            lines.append(f"{len(self.questions)} {asking}")
         lines += [f"{count} left out, {reason.value}" for reason, count in self.left_out.most_common()]
         if self.unknown:
             names = ", ".join(f"{name} {count}" for name, count in self.unknown.most_common())
