@@ -5,7 +5,7 @@ passed. They are made effective once more for a call that the run itself refused
 file that was opened by a capability is read by it too.
 """
 from dataclasses import dataclass, replace
-from typing import Dict, FrozenSet, Iterator, List, Tuple
+from typing import Dict, FrozenSet, Iterator, List, Sequence, Tuple
 
 from labask.capability_texts import Sets, read_sets
 from labask.granting import Passing, Trial, caps_word
@@ -31,12 +31,13 @@ class Aftermath:
         self.trial, self.run, self.session = trial, trial.run, trial.session
         self.found, self.denied = found, denied
         self.held = () if line.call in OWN_SETS else found.capabilities
+        self.relatives = frozenset(self.run.history.relatives(trial.tag))
         self.settle(line)
 
     def settle(self, line: ScriptLine) -> None:
         """Gives processes the sets of the run itself; a call that sets those of the caller leaves its own."""
         history, due = self.run.history, {}
-        for each in history.relatives(self.trial.tag):
+        for each in self.relatives:
             caps = history.caps_before(each, self.denied.number)
             if caps is not None and (each != self.trial.tag or line.call not in OWN_SETS):
                 due[each] = caps
@@ -48,28 +49,48 @@ class Aftermath:
         """The calls up to the last which were not done in the run itself and are done now."""
         if self.run.in_step:
             self.close_new(self.found.reply)
-        waiting: List[str] = []
+        waiting: List[int] = []
         for number in range(self.denied.number + 1, last + 1):
-            line = self.run.world.lines_by_call[number]
-            if self.run.replies[number - 1].outcome is Outcome.DONE:
-                waiting.append(line.single(number))
+            if not self.alone(number):
+                waiting.append(number)
                 continue
-            self.session.calls(waiting)
+            yield from self.together(waiting)
             waiting = []
-            yield from self.again(line, number)
+            yield from self.done_now(self.again(number), number)
+        yield from self.together(waiting)
 
-    def again(self, line: ScriptLine, number: int) -> Iterator[Later]:
-        """The call, where it is done now."""
-        before, text = self.run.replies[number - 1], line.single(number)
+    def alone(self, number: int) -> bool:
+        """Whether something is to be done before or after a call, so that it is not sent together with others."""
+        line, before = self.run.world.lines_by_call[number], self.run.replies[number - 1].outcome
+        if before is Outcome.DONE:
+            return False
+        asks = "CAPS" in arguments_of(line.call, len(line.arguments))
+        holds = bool(self.held) and line.tag in self.relatives
+        return holds and (asks or before is Outcome.REFUSED) or self.run.in_step and line.call in OPENING
+
+    def together(self, numbers: Sequence[int]) -> Iterator[Later]:
+        """Plays calls one behind the other, and gives those that are done now."""
+        given = self.session.calls([self.run.world.lines_by_call[number].single(number) for number in numbers])
+        for number, reply in zip(numbers, given):
+            yield from self.done_now(Later(reply), number)
+
+    def done_now(self, later: Later, number: int) -> Iterator[Later]:
+        """A call, where it is done now and was not in the run itself."""
+        if later.reply.outcome is Outcome.DONE and self.run.replies[number - 1].outcome is not Outcome.DONE:
+            yield Later(replace(later.reply, number=number), later.held)
+
+    def again(self, number: int) -> Later:
+        """Plays a call with what is to be done before and after it."""
+        line, before = self.run.world.lines_by_call[number], self.run.replies[number - 1]
         if "CAPS" in arguments_of(line.call, len(line.arguments)):
             self.drop(line.tag)
+        text = line.single(number)
         later = Later(self.session.call(text))
         if later.reply.outcome is Outcome.DENIED and before.outcome is Outcome.REFUSED and self.held:
             later = self.by_held(line, text, later)
-        if later.reply.outcome is Outcome.DONE:
-            if self.run.in_step:
-                self.close_new(later.reply)
-            yield Later(replace(later.reply, number=number), later.held)
+        if self.run.in_step and later.reply.outcome is Outcome.DONE:
+            self.close_new(later.reply)
+        return later
 
     def sets(self, tag: str) -> Sets:
         """The sets of a process; empty ones where it does not live."""

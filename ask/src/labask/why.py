@@ -2,6 +2,8 @@
 comes from it."""
 import argparse
 import re
+import threading
+from collections import deque
 from dataclasses import dataclass, field
 from typing import Any, Dict, FrozenSet, Iterator, List, Optional, Sequence, Set, Tuple
 
@@ -229,6 +231,52 @@ def asked_of(arguments: argparse.Namespace, world: World, played: Played) -> Ask
     return Asked(numbers or None, frozenset().union(*tags) if tags else None, bool(numbers))
 
 
+# ---- trials
+
+@dataclass(frozen=True)
+class Tried:
+    """A denied call that was tried again: with what it passes, the caller then, and the calls that are done then by their numbers."""
+    call: Call
+    passing: Optional[Passing] = None
+    after: Optional[ProcessFacts] = None
+    later: Dict[int, Later] = field(default_factory=dict)
+
+
+class Workers:
+    """Tries calls again, in several threads: each has trials of its own. Used as a context, at whose end the trials end."""
+
+    def __init__(self, run: Run):
+        self.run = run
+        self.last = max((reply.number for reply in run.replies if reply.outcome is not Outcome.DONE), default=0)
+        self.own = threading.local()
+        self.all: "deque[Trials]" = deque()
+
+    def __enter__(self) -> "Workers":
+        return self
+
+    def __exit__(self, *_: object) -> None:
+        for each in self.all:
+            each.close()
+
+    def trials(self) -> Trials:
+        """The trials of this thread."""
+        if not hasattr(self.own, "trials"):
+            self.own.trials = Trials(self.run)
+            self.all.append(self.own.trials)
+        found: Trials = self.own.trials
+        return found
+
+    def try_call(self, call: Call) -> Tried:
+        """Tries a denied call again, and plays what comes after it where it passes."""
+        trials = self.trials()
+        passing = trials.passing(call.line, call.reply)
+        trial = trials.passed(call.line, passing) if passing is not None else None
+        if trial is None or passing is None:
+            return Tried(call, passing)
+        after = process_facts(trial.session, call.reply.tag)
+        return Tried(call, passing, after, afterwards(trial, call.line, call.reply, passing, self.last))
+
+
 # ---- explanations
 
 class Asker:
@@ -351,38 +399,34 @@ class Asker:
         With `most` only so many are tried, and none that comes from an earlier one.
         """
         asked = {each.reply.number: each for each in found}
-        not_done = [number for number, each in asked.items() if each.reply.outcome is not Outcome.DONE]
-        last = max((reply.number for reply in self.played.replies if reply.outcome is not Outcome.DONE), default=0)
+        last_asked = max((number for number, each in asked.items() if each.reply.outcome is not Outcome.DONE), default=0)
         causes: Dict[int, Tuple[int, Later]] = {}
-        trials = Trials(self.run)
-        try:
-            for call in self.calls(max(not_done, default=0)):
-                if call.reply.outcome is not Outcome.DENIED or (
-                        call.reply.number in causes and (most is not None or call.reply.number not in asked)):
-                    continue
-                if self.effort.stops() or most == 0:
+
+        def needless(call: Call) -> bool:
+            """Whether nothing is to be learnt from a call: it comes from an earlier one, and is not explained itself."""
+            return call.reply.number in causes and (most is not None or call.reply.number not in asked)
+
+        denied = (call for call in self.calls(last_asked) if call.reply.outcome is Outcome.DENIED)
+        with Workers(self.run) as workers:
+            for tried in self.effort.results(workers.try_call, (call for call in denied if not needless(call))):
+                if most == 0:
                     break
-                most = most if most is None else most - 1
-                self.try_call(trials, call, asked.get(call.reply.number), causes, last)
-                self.effort.progress(f"why: call {call.reply.number} of {max(not_done)} is tried again")
-        finally:
-            trials.close()
+                if not needless(tried.call):
+                    most = most if most is None else most - 1
+                    self.note(tried, asked.get(tried.call.reply.number), causes)
+                self.effort.progress(f"why: call {tried.call.reply.number} of {last_asked} is tried again")
         self.note_causes(asked, causes)
 
-    def try_call(self, trials: Trials, call: Call, found: Optional[Explained], causes: Dict[int, Tuple[int, Later]], last: int) -> None:
-        """Tries a denied call again, and adds to the causes the calls that are done where it is done."""
-        passing = trials.passing(call.line, call.reply)
+    def note(self, tried: Tried, found: Optional[Explained], causes: Dict[int, Tuple[int, Later]]) -> None:
+        """Adds to a call what was found by trying it, and to the causes the calls that are done where it is done."""
+        number = tried.call.reply.number
         if found is not None:
-            found.tried, found.passing = True, passing
-        trial = trials.passed(call.line, passing) if passing is not None else None
-        if trial is None or passing is None:
-            return
-        if found is not None and found.formula is not None:
-            found.formula = found.formula.after_call(process_facts(trial.session, call.reply.tag), passing.names)
-        if call.reply.number not in causes:
-            for number, then in afterwards(trial, call.line, call.reply, passing, last).items():
-                if number not in causes or causes[number][1].held and not then.held:
-                    causes[number] = call.reply.number, then
+            found.tried, found.passing = True, tried.passing
+            if found.formula is not None and tried.passing is not None and tried.after is not None:
+                found.formula = found.formula.after_call(tried.after, tried.passing.names)
+        for later, then in tried.later.items() if number not in causes else ():
+            if later not in causes or causes[later][1].held and not then.held:
+                causes[later] = number, then
 
     def note_causes(self, asked: Dict[int, Explained], causes: Dict[int, Tuple[int, Later]]) -> None:
         """Adds to calls what they come from, and what comes from them."""

@@ -39,6 +39,8 @@ def lseek(following: Following, call: Call, process: Process) -> None:
         whence, offset = "SEEK_SET", found
     if whence not in SEEKS or abs(offset) > NUMBER:
         raise Leave(Reason.NO_ARGUMENT)
+    if found is None and held.seek.call is not None:
+        raise Leave(Reason.NO_ARGUMENT, "from a place past the end")
     size = size_of(following, process, held) if found is not None and held.pipe is None else None
     if found is not None:
         forget(following, held.seek)
