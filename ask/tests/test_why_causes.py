@@ -22,6 +22,8 @@ file /mine 0600 0 0 public "mine"
 file /yours 0644 30 30 public "yours"
 dir /top 0755 0 0 secret
 file /top/a 0644 0 0 secret "top"
+dir /top/vault 0700 0 0 secret
+file /top/vault/f 0600 0 0 secret "vault"
 dir /bin 0755 0 0 public
 file /bin/reader 0700 0 0 public "x" "cap_dac_read_search=ep"
 proc public 10 10 - "="
@@ -80,22 +82,31 @@ def test_text_lists_followers_below_their_cause(tmp_path):
     status, out, _ = labask("why", file_of(tmp_path, CAUSES["chdir"][0]))
     assert status == 3
     assert out == """\
-call 1, line 18: 1@public chdir /closed: EACCES dac_search p1
+call 1, line 20: 1@public chdir /closed: EACCES dac_search p1
   dac_search: the mode does not let the caller search the directory
   object: /closed: dir 0700, owner 0, group 0, label public, line 6
   caller: 1@public: label public, user 10, group 10, groups -, effective capabilities none
   with cap_dac_read_search: ok
   where this call is done, these are done too:
-    call 2, line 19: 1@public open a r: ENOENT; then ok 0 by cap_dac_read_search too
-    call 3, line 20: 1@public stat a: ENOENT; then ok file 0666 0 0 1 1 3@public public by cap_dac_read_search too
-    call 4, line 21: 1@public read 0 4: EBADF; then ok "a"
-call 5, line 22: 1@public stat b: ENOENT
+    call 2, line 21: 1@public open a r: ENOENT; then ok 0 by cap_dac_read_search too
+    call 3, line 22: 1@public stat a: ENOENT; then ok file 0666 0 0 1 1 3@public public by cap_dac_read_search too
+    call 4, line 23: 1@public read 0 4: EBADF; then ok "a"
+call 5, line 24: 1@public stat b: ENOENT
   ENOENT: a name of the path is absent
   object: /: dir 0755, owner 0, group 0, label public, line 5
   caller: 1@public: label public, user 10, group 10, groups -, effective capabilities none
   the first name that leads nowhere is that of /b
 Every answer was played by labsys. What was not found is not shown to be absent.
 """
+
+
+def test_capabilities_are_effective_once_more(explained):
+    """A refused call that a check denies behind the cause is tried with one of its capabilities, and else with all."""
+    script = "1@public chdir /vault\n1@public open f r\n1@public read 0 5\n1@public open /mine r\n"
+    found = explained(script.replace("/vault", "/top/vault"))
+    assert [(each.call.reply.number, each.then.held) for each in found[0].followers] == [
+        (2, ("cap_mac_read", "cap_dac_read_search")), (3, ("cap_mac_read",))]
+    assert found[3].cause is None, "what was denied in the run itself is not tried with them"
 
 
 def test_call_that_is_asked_about_alone_has_its_cause(tmp_path):

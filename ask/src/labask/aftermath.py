@@ -113,14 +113,18 @@ class Aftermath:
         return self.session.call(f"{tag} cap_set_proc {caps_word(sets.written)}").outcome is Outcome.DONE
 
     def by_held(self, line: ScriptLine, text: str, later: Later) -> Later:
-        """The call with the capabilities made effective once more, where the caller is still permitted them."""
-        sets, held = self.sets(line.tag), frozenset(self.held)
-        if not held <= sets.permitted or not self.set_caps(line.tag, Sets(sets.effective | held, sets.inheritable, sets.permitted)):
-            return later
-        reply = self.session.call(text)
-        if line.call not in OWN_SETS or reply.outcome is not Outcome.DONE:
-            self.set_caps(line.tag, sets)
-        return Later(reply, self.held) if reply.outcome is Outcome.DONE else later
+        """The call with the capabilities made effective once more, one of them or all, where the caller is still permitted them."""
+        sets = self.sets(line.tag)
+        for names in dict.fromkeys([*((name,) for name in self.held), self.held]):
+            more = Sets(sets.effective | frozenset(names), sets.inheritable, sets.permitted)
+            if not frozenset(names) <= sets.permitted or not self.set_caps(line.tag, more):
+                continue
+            reply = self.session.call(text)
+            if line.call not in OWN_SETS or reply.outcome is not Outcome.DONE:
+                self.set_caps(line.tag, sets)
+            if reply.outcome is Outcome.DONE:
+                return Later(reply, names)
+        return later
 
     def close_new(self, reply: Reply) -> None:
         """Closes the descriptors that a call gives which the run itself did not get."""
