@@ -4,7 +4,7 @@ import json
 import pytest
 from support import EXAMPLES, labask
 
-from labask import why
+from labask import asking
 from labask.effort import Effort
 from labask.playing import Outcome
 from labask.shortening import short
@@ -63,7 +63,7 @@ def explained(player):
     """Gives what is said of the calls of a script."""
     def explain(script, *given):
         text = (WORLD + script).encode()
-        return why.explain_all(read_world(text), player.play_accepted(text), player, *given)
+        return asking.explain_all(read_world(text), player.play_accepted(text), player, *given)
     return explain
 
 
@@ -134,7 +134,8 @@ def test_sets_of_calls_and_processes(tmp_path, words, numbers):
 
 
 @pytest.mark.parametrize("words", (("0",), ("4",), ("1-4",), ("3-1",), ("x",), ("1-",), ("--process", "9@public"),
-                                   ("--process", "label:top")))
+                                   ("--process", "label:top"), ("1", "--against", "/dev/null"),
+                                   ("--process", "1@public", "--against", "/dev/null")))
 def test_wrong_words(tmp_path, words):
     path = file_of(tmp_path, "1@public getpid\n" * 3)
     status, out, messages = labask("why", path, *words)

@@ -5,7 +5,7 @@ import random
 import pytest
 from support import labask
 
-from labask import why
+from labask import asking
 from labask.capability_texts import read_sets
 from labask.playing import Outcome, PlayingFault
 from labask.signatures import CAPABILITIES
@@ -84,8 +84,8 @@ def test_call_that_no_capability_lets_pass_is_said_not_to_be_played(tmp_path, pl
     out = labask("why", path, 2)[1]
     assert "With cap_mac_read and cap_dac_execute labsys answers" in out
     world = read_world(text.encode())
-    asker = why.Asker(world, player.play_accepted(text.encode()), player)
-    found = asker.observe(why.Asked(frozenset((2,)), None, True))
+    asker = asking.Asker(world, player.play_accepted(text.encode()), player)
+    found = asker.observe(asking.Asked(frozenset((2,)), None, True))
     assert "The call was not done, so these values are not played." in "\n".join(found[0].lines())
 
 
@@ -106,7 +106,7 @@ def test_formula_is_what_labsys_answers(seed, player):
                     f'"{random_caps(draw, False)}"\n' for index in range(6))
     calls = "".join(f"1@low exec /p{draw.randrange(6)}\n" for _ in range(10))
     text = (HEAD.format(bound=bound) + files + f'proc low 10 20 - "{random_caps(draw, True)}"\nscript\n' + calls).encode()
-    found = why.explain_all(read_world(text), player.play_accepted(text), player, why.Asked(frozenset(range(1, 11)), None, True))
+    found = asking.explain_all(read_world(text), player.play_accepted(text), player, asking.Asked(frozenset(range(1, 11)), None, True))
     assert len(found) == 10 and all(each.reply.outcome is Outcome.DONE for each in found)
     for each in found:
         formula = each.formula
@@ -116,7 +116,7 @@ def test_formula_is_what_labsys_answers(seed, player):
 
 def test_formula_that_labsys_does_not_follow_is_a_fault(player):
     text = (HEAD.format(bound="all") + 'file /prog 0755 5 50 low "x"\nproc low 10 20 - "="\nscript\n1@low exec /prog\n').encode()
-    formula = why.explain_all(read_world(text), player.play_accepted(text), player, why.Asked(frozenset((1,)), None, True))[0].formula
+    formula = asking.explain_all(read_world(text), player.play_accepted(text), player, asking.Asked(frozenset((1,)), None, True))[0].formula
     other = formula.after.__class__("1@low", "low", formula.after.ids, "cap_kill=ep")
     with pytest.raises(PlayingFault, match="its formula"):
         formula.after_call(other)

@@ -1,7 +1,7 @@
 """`why` names the capability with which a denied call passes, also where the caller has executed programs."""
 import pytest
 
-from labask import why
+from labask import asking
 from labask.playing import Outcome
 from labask.worlds import read_world
 
@@ -34,7 +34,7 @@ def explained(player):
     """Gives the explanations of the calls of a script that were not done, by their numbers."""
     def explain(script, bound="all"):
         text = (WORLD.format(bound=bound) + script).encode()
-        return {each.reply.number: each for each in why.explain_all(read_world(text), player.play_accepted(text), player)}
+        return {each.reply.number: each for each in asking.explain_all(read_world(text), player.play_accepted(text), player)}
     return explain
 
 
@@ -120,6 +120,6 @@ def test_capabilities_of_the_trial_end_with_the_call(explained):
 
 def test_every_denied_call_of_a_generated_input_is_tried(player):
     status, text, _ = player.run(["gen", "120"], b"")
-    found = why.explain_all(read_world(text), player.play_accepted(text), player)
+    found = asking.explain_all(read_world(text), player.play_accepted(text), player)
     denied = [each for each in found if each.reply.outcome is Outcome.DENIED]
     assert status == 0 and denied and all(each.tried and each.passing for each in denied)

@@ -6,8 +6,10 @@ from dataclasses import dataclass
 from typing import Any, Dict, Iterator, List, Optional, Sequence
 
 from labask.answers import NOT_ABSENT, PLAYED, Status, WrongWords, write_json
+from labask.asking import Asked, Asker
 from labask.check import counted
 from labask.effort import Effort
+from labask.explained import LISTED, Explained
 from labask.observing import NoObserver
 from labask.playing import Outcome, Played, Player, Reply
 from labask.shortening import short
@@ -16,12 +18,12 @@ from labask.strace.log import Call, Log, read_log
 from labask.strace.questions import answers
 from labask.strace.script import shown
 from labask.strace.values import DIGITS
-from labask.why import LISTED, Asked, Asker, Explained
 from labask.worlds import ScriptLine, World, read_file
 
 COMMENT = re.compile(rb"# (%b)(: |, )" % DIGITS)
 ASKING = re.compile(rb"# (%b), question: " % DIGITS)
 EXPLAINED = 10
+STOPPED = "The work was stopped before all was tried."
 
 
 @dataclass(frozen=True)
@@ -150,6 +152,8 @@ class Report:
                   "only since an earlier call is denied here."
         if len(firsts) > len(self.explained):
             yield f"The first {len(self.explained)} of the {len(firsts)} calls that are denied here are explained."
+        if self.effort.stopped:
+            yield STOPPED
         if denied:
             yield "Behind a denial the script goes on as the log does; the program itself may do something else."
 
