@@ -1,27 +1,27 @@
 """The question `why`: why a call was denied or refused, at which object, with which capability it would have passed, and what else
 comes from it."""
 import argparse
-import re
 from typing import FrozenSet, Iterator, Sequence
 
 from labask import against
 from labask.answers import NOT_ABSENT, PLAYED, Status, WrongWords, write_json
 from labask.asking import Asked, explain_all
+from labask.command_words import number
 from labask.effort import add_effort_arguments, effort_of
 from labask.explained import Explained
 from labask.playing import Outcome, Played, Player
 from labask.sets import label_named
 from labask.worlds import World, read_file, read_world
 
-CALL_NUMBERS = re.compile(r"([0-9]{1,9})(?:-([0-9]{1,9}))?")
-
 
 def call_numbers(text: str) -> range:
     """The numbers of calls that a word of the command line names: one, or those from one to another."""
-    found = CALL_NUMBERS.fullmatch(text)
-    if not found or int(found[2] or found[1]) < int(found[1]):
-        raise argparse.ArgumentTypeError(f"{text!r} is neither the number of a call nor two of them with - between")
-    return range(int(found[1]), int(found[2] or found[1]) + 1)
+    first, between, last = text.partition("-")
+    begin = number(first if between and first else text)
+    end = number(last) if between else begin
+    if end < begin:
+        raise argparse.ArgumentTypeError(f"{text!r} ends before it begins")
+    return range(begin, end + 1)
 
 
 def add_arguments(parser: argparse.ArgumentParser) -> None:
@@ -58,7 +58,7 @@ def asked_of(arguments: argparse.Namespace, world: World, played: Played) -> Ask
     if not 1 <= first <= last <= len(played.replies) and arguments.calls:
         raise WrongWords(f"the script has {len(played.replies)} calls; there is no call {first if first < 1 else last}")
     tags = [tags_named(world, text) for text in arguments.process]
-    numbers = frozenset(number for numbers in arguments.calls for number in numbers)
+    numbers = frozenset(call for numbers in arguments.calls for call in numbers)
     return Asked(numbers or None, frozenset().union(*tags) if tags else None, bool(numbers))
 
 
