@@ -136,7 +136,8 @@ def test_build_by_make(open_folder, player):
     (tree / "Makefile").write_text("program: main.o part.o\n\tcc -o $@ main.o part.o\n%.o: %.c part.h\n\tcc -c -o $@ $<\n")
     give(tree)
     user, group, groups = own_ids()
-    (open_folder / "world").write_bytes(labask("world", tree, "--bytes", "65536", "--proc", f"{user}:{group}:{groups}:=")[0])
+    processes = ("--proc", f"{user}:{group}:{groups}:=", "--proc", "7:7:-:cap_dac_read_search=ep")
+    (open_folder / "world").write_bytes(labask("world", tree, "--bytes", "65536", *processes)[0])
     log = open_folder / "log"
     log.touch(0o666)
     log.chmod(0o666)
@@ -146,5 +147,5 @@ def test_build_by_make(open_folder, player):
     (open_folder / "run").write_bytes(run)
     found = json.loads(labask("why", open_folder / "run", "--against", log, "--json", status=None)[0])
     assert set(found["counts"]) <= {"same", "known difference, size and link count of a directory"}, found["counts"]
-    replies = player.play_accepted(run + b"1@base stat /program\n").replies
+    replies = player.play_accepted(run + b"2@base stat /program\n").replies
     assert int(replies[-1].words[4].value) == (tree / "program").stat().st_size, "the program has as many bytes as on the system"
