@@ -92,7 +92,7 @@ def trace(world: World, log: Log, arguments: argparse.Namespace, player: Player)
         following = make_following(script, world, root, log)
         begin(following, pid, tag, start or first_directory(log, pid) or root, arguments.umask)
         follow(following, log)
-    if script.questions:
+    if script.questions and len(world_with(world, script)) <= INPUT_BYTES:
         add_answers(script, world, player)
     return script
 
