@@ -1,6 +1,7 @@
 """Logs with faults are followed all the same, and no line of them is taken for what it is not."""
 import pytest
 from logs_by_hand import follow, log_of, report
+from support import labask
 
 from labask.strace.log import Call, read_log
 from labask.strace.script import shown
@@ -139,3 +140,21 @@ def test_descriptors_stay_in_step(player):
              'write(5</srv/site/a>, "x", 1) = -1 EBADF (Bad file descriptor)']
     found = follow(player, WORLD, log_of(lines))
     assert all(each["cause"] is None for each in report(player, found).as_json()["calls"])
+
+
+@pytest.mark.parametrize("lines, status", (
+    (['stat("a", {st_mode=S_IFREG|0644, st_size=5, ...}) = 0'], 0), (['stat("a", {st_mode=S_IFREG|0644, st_size=9, ...}) = 0'], 0),
+    (['stat("a", {st_mode=S_IFREG|0600, st_size=5, ...}) = 0'], 3), (['mkdir("top/x", 0700) = 0'], 3), (['access("top", R_OK) = 0'], 3),
+    (['access("a", R_OK) = 0'], 0)), ids=("same", "known", "other", "denied", "question denied", "question"))
+def test_exit_statuses(player, tmp_path, lines, status):
+    (tmp_path / "log").write_bytes(log_of(lines))
+    (tmp_path / "run").write_bytes(follow(player, WORLD, log_of(lines)).world.text)
+    for more in ((), ("--json",)):
+        assert labask("why", tmp_path / "run", "--against", tmp_path / "log", *more)[0] == status
+
+
+def test_work_that_is_stopped(player, tmp_path):
+    (tmp_path / "log").write_bytes(log_of(['mkdir("top/x", 0700) = 0']))
+    (tmp_path / "run").write_bytes(follow(player, WORLD, (tmp_path / "log").read_bytes()).world.text)
+    status, out, _ = labask("why", tmp_path / "run", "--against", tmp_path / "log", "--time", "0")
+    assert status == 3 and "The work was stopped before all was tried.\n" in out and "with cap" not in out
