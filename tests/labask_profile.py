@@ -1,6 +1,8 @@
 #!/usr/bin/env python3
 """Writes what `labask` knows of the kernel, from the sources of the crates: the module ask/src/labask/kernel_profile.py.
 
+What each call may answer comes from the call table, docs/CALLS.md; by `answers.py` a case shows each of these answers.
+
     labask_profile.py            prints the module
     labask_profile.py --write    writes it
     labask_profile.py --check    prints nothing, and fails where the file has another text
@@ -10,6 +12,7 @@ import re
 import sys
 import textwrap
 
+import answers
 import pages
 
 MODULE = pages.TOP / "ask" / "src" / "labask" / "kernel_profile.py"
@@ -38,6 +41,7 @@ class ListOfNames(NamedTuple):
     least: int
     most: int
 '''
+TUPLE = "Tuple[str, ...]"
 CALLS = "crates/kern_model/src/calls.rt"
 ARGUMENTS = "crates/script_text/src/argument.rt"
 # the names of the arguments of calls, by their types
@@ -136,6 +140,23 @@ def checks():
     return {check: (error, capabilities[check]) for check, error in errors.items()}
 
 
+def answers_of_calls():
+    """What each call may answer but ok: error numbers, and errors with the checks that deny."""
+    table = answers.Table(pages.text_of("docs/CALLS.md"), pages.text_of("docs/PROFILE.md"))
+    return {name: [answer for answer in table.answers(name) if answer.startswith("E") and (name, answer) not in answers.NEVER]
+            for name in calls()}
+
+
+def refusals():
+    """The error numbers of each call, without those of checks."""
+    return {name: tuple(answer for answer in found if " " not in answer) for name, found in answers_of_calls().items()}
+
+
+def denials():
+    """The checks that may deny each call."""
+    return {name: tuple(answer.split()[1] for answer in found if " " in answer) for name, found in answers_of_calls().items()}
+
+
 def faults():
     """The words of all faults of lines, in the order in which they count."""
     return pages.arms("line_text/src/fault.rt", "LineFault")
@@ -148,9 +169,10 @@ def steps():
 
 def written_value(value, made):
     """A value as Python has it; what has several parts is made by the class of the name `made`."""
-    if isinstance(value, tuple):
-        return f"{made}({', '.join(map(written, value))})"
-    return written(value)
+    if not isinstance(value, tuple):
+        return written(value)
+    parts = ", ".join(map(written, value))
+    return f"({parts}{',' * (len(value) == 1)})" if made == TUPLE else f"{made}({parts})"
 
 
 def written(value):
@@ -161,7 +183,7 @@ def written(value):
 def tuple_of(name, comment, values):
     """The lines of a tuple of texts."""
     body = textwrap.fill(", ".join(map(written, values)) + ",", 135, initial_indent="    ", subsequent_indent="    ")
-    return f"# {comment}\n{name}: Tuple[str, ...] = (\n{body}\n)\n"
+    return f"# {comment}\n{name}: {TUPLE} = (\n{body}\n)\n"
 
 
 def dictionary_of(name, comment, values, kind="str"):
@@ -183,6 +205,8 @@ def module():
         f'# of open, in the order of their letters\nOPEN_FLAGS = "{"".join(pages.flags())}"',
         dictionary_of("CHECKS", "in the order of the profile", checks(), "Check").rstrip("\n"),
         tuple_of("ERRORS", "of calls", pages.errors()).rstrip("\n"),
+        dictionary_of("REFUSALS", "errors of each call but those of checks", refusals(), TUPLE).rstrip("\n"),
+        dictionary_of("DENIALS", "checks that may deny each call", denials(), TUPLE).rstrip("\n"),
         dictionary_of("LINES", "of a world, with the names of the words behind the keyword", lines()).rstrip("\n"),
         dictionary_of("LISTS", "of the names of a world", lists(), "ListOfNames").rstrip("\n"),
         tuple_of("STEPS", "words with which lines of programs begin", steps()).rstrip("\n"),

@@ -5,7 +5,7 @@ import sys
 from support import TOP
 
 from labask.file_caps import LINUX, SPLIT
-from labask.kernel_profile import CALLS, CAPABILITIES, CHECKS, ERRORS, FAULTS, UTILITIES
+from labask.kernel_profile import CALLS, CAPABILITIES, CHECKS, DENIALS, ERRORS, FAULTS, REFUSALS, UTILITIES
 from labask.reasons import CHECKS as CHECKS_IN_WORDS
 from labask.reasons import ERRORS as ERRORS_IN_WORDS
 from labask.reasons import ERRORS_OF_CALLS
@@ -27,8 +27,14 @@ def test_every_error_has_words():
 
 
 def test_errors_of_calls_are_errors_of_calls():
-    assert {call for call, _ in ERRORS_OF_CALLS} <= set(CALLS)
-    assert {error for _, error in ERRORS_OF_CALLS} <= set(ERRORS_IN_WORDS)
+    """What is said of an error of one call is said of one that it may answer."""
+    assert [(call, error) for call, error in ERRORS_OF_CALLS if error not in REFUSALS[call]] == []
+
+
+def test_answers_of_every_call():
+    assert set(REFUSALS) == set(DENIALS) == set(CALLS)
+    assert {error for errors in REFUSALS.values() for error in errors} == set(ERRORS_IN_WORDS)
+    assert {check for checks in DENIALS.values() for check in checks} == set(CHECKS_IN_WORDS)
 
 
 def test_capabilities_that_override():

@@ -69,6 +69,43 @@ ERRORS: Tuple[str, ...] = (
     "EACCES", "EAGAIN", "EBADF", "EBUSY", "ECHILD", "EEXIST", "EFBIG", "EINVAL", "EISDIR", "EMFILE", "EMLINK", "ENFILE", "ENOENT",
     "ENOSPC", "ENOTDIR", "ENOTEMPTY", "EPERM", "EPIPE", "ESPIPE", "ESRCH",
 )
+# errors of each call but those of checks
+REFUSALS: Dict[str, Tuple[str, ...]] = {
+    "open": ("EEXIST", "EMFILE", "ENFILE", "ENOTDIR", "ENOENT", "ENOSPC", "EISDIR", "EINVAL"), "close": ("EBADF",),
+    "read": ("EBADF", "EAGAIN"), "write": ("EBADF", "EPIPE", "EAGAIN", "EINVAL", "EFBIG"), "lseek": ("EBADF", "ESPIPE", "EINVAL"),
+    "dup": ("EBADF", "EMFILE"), "pipe": ("EMFILE", "ENFILE", "ENOSPC"), "mkfifo": ("ENOTDIR", "ENOENT", "EEXIST", "ENOSPC"),
+    "fstat": ("EBADF",), "mkdir": ("ENOTDIR", "ENOENT", "EEXIST", "ENOSPC"), "rmdir": ("ENOTDIR", "ENOENT", "EBUSY", "ENOTEMPTY"),
+    "link": ("ENOTDIR", "ENOENT", "EMLINK", "EEXIST"), "unlink": ("ENOTDIR", "ENOENT", "EBUSY"),
+    "rename": ("ENOTDIR", "ENOENT", "EBUSY", "EISDIR", "ENOTEMPTY", "EINVAL"), "readdir": ("ENOTDIR", "ENOENT"),
+    "stat": ("ENOTDIR", "ENOENT"), "chdir": ("ENOTDIR", "ENOENT"), "chmod": ("ENOTDIR", "ENOENT"), "chown": ("ENOTDIR", "ENOENT"),
+    "umask": (), "cap_get_file": ("ENOTDIR", "ENOENT", "EINVAL"), "cap_set_file": ("ENOTDIR", "ENOENT", "EINVAL"),
+    "cap_get_fd": ("EBADF", "EINVAL"), "cap_set_fd": ("EBADF", "EINVAL"), "mac_get_file": ("ENOTDIR", "ENOENT"),
+    "mac_set_file": ("ENOTDIR", "ENOENT", "ENOTEMPTY"), "mac_get_fd": ("EBADF",), "mac_set_fd": ("EBADF",), "fork": ("EAGAIN",),
+    "exec": ("ENOTDIR", "ENOENT"), "exit": (), "wait": ("ECHILD", "EAGAIN"), "kill": ("ESRCH",), "getpid": (), "getppid": (),
+    "getids": (), "setuid": (), "setgid": (), "cap_get_proc": (), "cap_set_proc": (), "mac_get_proc": (), "mac_set_proc": (),
+    "aud_write": (), "aud_switch": (),
+}
+# checks that may deny each call
+DENIALS: Dict[str, Tuple[str, ...]] = {
+    "open": ("mac_read", "dac_search", "mac_write", "dac_write", "label_order", "dac_read"), "close": (),
+    "read": ("mac_read", "mac_write"), "write": ("mac_write",), "lseek": ("mac_read",), "dup": (), "pipe": (),
+    "mkfifo": ("mac_read", "dac_search", "mac_write", "dac_write", "label_order"), "fstat": ("mac_read",),
+    "mkdir": ("mac_read", "dac_search", "mac_write", "dac_write", "label_order"),
+    "rmdir": ("mac_read", "dac_search", "mac_write", "dac_write"),
+    "link": ("mac_read", "dac_search", "mac_write", "link_dir", "dac_write", "label_order"),
+    "unlink": ("mac_read", "dac_search", "mac_write", "dac_write", "unlink_dir"),
+    "rename": ("mac_read", "dac_search", "mac_write", "dac_write", "label_order"), "readdir": ("mac_read", "dac_search", "dac_read"),
+    "stat": ("mac_read", "dac_search"), "chdir": ("mac_read", "dac_search"), "chmod": ("mac_read", "dac_search", "mac_write", "owner"),
+    "chown": ("mac_read", "dac_search", "mac_write", "chown"), "umask": (), "cap_get_file": ("mac_read", "dac_search"),
+    "cap_set_file": ("mac_read", "dac_search", "mac_write", "owner", "setfcap", "cap_within"), "cap_get_fd": ("mac_read",),
+    "cap_set_fd": ("mac_write", "owner", "setfcap", "cap_within"), "mac_get_file": ("mac_read", "dac_search"),
+    "mac_set_file": ("mac_read", "dac_search", "mac_write", "owner", "mac_upgrade", "mac_downgrade", "label_order"),
+    "mac_get_fd": ("mac_read",), "mac_set_fd": ("mac_write", "owner", "mac_upgrade", "mac_downgrade", "label_order"), "fork": (),
+    "exec": ("mac_read", "dac_search", "exec_kind", "dac_execute"), "exit": (), "wait": (), "kill": ("mac_write", "kill"),
+    "getpid": (), "getppid": (), "getids": (), "setuid": ("setuid",), "setgid": ("setgid",), "cap_get_proc": (),
+    "cap_set_proc": ("cap_grow",), "mac_get_proc": (), "mac_set_proc": ("mac_subject",), "aud_write": ("aud_write",),
+    "aud_switch": ("aud_switch",),
+}
 # of a world, with the names of the words behind the keyword
 LINES: Dict[str, str] = {
     "dir": "PATH MODE UID GID LABEL", "file": "PATH MODE UID GID LABEL BYTES [CAPS]", "fifo": "PATH MODE UID GID LABEL",
