@@ -85,7 +85,7 @@ class Opened:
 @dataclass
 class Followed:
     """What is followed of a process from its replies: its current directory as number and path, and its descriptors."""
-    directory: Tuple[str, bytes]
+    directory: Tuple[str, Optional[bytes]]
     descriptors: Dict[int, Opened] = field(default_factory=dict)
 
 
