@@ -97,6 +97,7 @@ SLIPS = [
     ("script", f"{TAG} kill 1 TERM", "the label is missing behind the number", "1", [f"{TAG} kill {TAG} TERM"]),
     ("script", f"{TAG}: getpid", "no colon stands behind it", f"{TAG}:", [f"{TAG} getpid"]),
     ("script", f"{TAG} open /a r# read it", COMMENT, "# read it", ["# read it", f"{TAG} open /a r"]),
+    ("world", "file /a 0644 0 0 public is#1 here", f"a content {SPACED}", "is#1 here", ['file /a 0644 0 0 public "is#1 here"']),
     ("script", f"{TAG} getpid;", "a line ends without a semicolon", ";", [f"{TAG} getpid"]),
     ("script", f"{TAG} do getpid", "do stands in programs", "do", [f"{TAG} getpid"]),
     ("script", f"{TAG} write 0 hello, world", f"a content {SPACED}", "hello, world", [f'{TAG} write 0 "hello, world"']),

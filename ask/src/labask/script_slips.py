@@ -192,3 +192,4 @@ def script_advice(world: World, line: Line) -> Iterator[Advice]:
     else:
         yield from quotes_advice(line)
     yield from comma_advice(line)
+    yield from comment_advice(line, inside=True)

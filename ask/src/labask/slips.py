@@ -60,10 +60,10 @@ def quoted_advice(line: Line, what: Sequence[str], known: Sequence[str]) -> Iter
             yield on_words(f"word {number}", [word], f"{name} is not quoted", [replaced(line, [word], word.text)])
 
 
-def comment_advice(line: Line) -> Iterator[Advice]:
-    """A comment behind other words, also one that begins in a word."""
+def comment_advice(line: Line, inside: bool = False) -> Iterator[Advice]:
+    """A comment behind other words, which begins with a word, or inside one."""
     word = next((word for word in line.words[1:] if not word.quoted and b"#" in word.written), None)
-    if word:
+    if word and inside != word.written.startswith(b"#"):
         column = word.column + word.written.index(b"#")
         lines = (line.text[column:], line.text[:column].rstrip(b" "))
         yield Advice(column, len(line.text) - column, "a comment is a line of its own", lines, True)

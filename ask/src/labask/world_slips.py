@@ -92,3 +92,4 @@ def world_advice(line: Line) -> Iterator[Advice]:
         yield from spaced_advice(line, LINES[keyword].split(), line.words[1:])
         yield from label_of_line(line)
     yield from comma_advice(line)
+    yield from comment_advice(line, inside=True)
