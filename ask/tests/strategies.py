@@ -1,7 +1,7 @@
 """Random worlds and faulty texts, as strategies of Hypothesis."""
 import re
 from dataclasses import dataclass
-from typing import List, Optional, Sequence, Tuple
+from typing import List, Sequence, Tuple
 
 from hypothesis import strategies as st
 
