@@ -8,9 +8,9 @@ from dataclasses import dataclass, field
 from typing import Dict, Iterator, List, Optional, Tuple
 
 from labask.capability_texts import read_sets
+from labask.kernel_profile import CAPABILITIES, MAX_LINE, MAX_PATH, MAX_PATH_NAMES
 from labask.playing import Outcome, Player, PlayingFault, Reply, Session
-from labask.signatures import CAPABILITIES
-from labask.worlds import MAX_LINE, ScriptLine, World, canonical_path, path_word, quoted
+from labask.worlds import ScriptLine, World, canonical_path, path_word, quoted
 
 OBSERVER_CAPS = "cap_dac_read_search,cap_mac_read=ep"
 QUESTION_BYTES = 16_384  # of the questions about a call, beside those by which objects are looked at
@@ -156,7 +156,7 @@ class Observed:
 
     def stat(self, path: bytes) -> Optional[ObjectFacts]:
         """What is at an absolute path, or None where nothing is."""
-        if path.count(b"/") > 32 or len(path) > 1_023 or len(path_word(path)) > 2_000:
+        if path.count(b"/") > MAX_PATH_NAMES or len(path) > MAX_PATH or len(path_word(path)) > 2_000:
             return None
         self.make_room(QUESTION_BYTES)
         reply = self.session.call(f"{self.observer} stat {path_word(path)}")

@@ -10,13 +10,12 @@ from labask.answers import Status, write_json
 from labask.command_words import named, number
 from labask.directories import Entry, LeftOut, Note, Reading, SecondName, Unfit, note_text, read_tree
 from labask.file_caps import SPLIT, own_sets
+from labask.kernel_profile import MAX_FILE_BYTES, MAX_GROUPS
 from labask.label_maps import LabelFault, LabelMap, read_labels
 from labask.pieces import LINE_BYTES, piece_length, pieces
 from labask.playing import Outcome, Player, Refused
 from labask.worlds import Kind, path_word, quoted, read_world
 
-FILE_BYTES = 65536
-GROUPS = 16
 MAKER_CAPS = "cap_dac_read_search,cap_dac_write,cap_fsetid,cap_mac_read,cap_mac_write=ep"
 ROOT_COMMENT = "root"
 
@@ -72,7 +71,7 @@ class Writing:
 
 def read_bytes(text: str) -> int:
     """How many bytes of each file are taken."""
-    return number(text, FILE_BYTES)
+    return number(text, MAX_FILE_BYTES)
 
 
 def read_proc(text: str) -> Proc:
@@ -81,8 +80,8 @@ def read_proc(text: str) -> Proc:
     if len(parts) < 4 or not parts[3]:
         raise argparse.ArgumentTypeError(f"{text!r} is not UID:GID:GROUPS:CAPS or UID:GID:GROUPS:CAPS:LABEL")
     groups = () if parts[2] in ("-", "") else tuple(number(each) for each in parts[2].split(","))
-    if len(groups) > GROUPS:
-        raise argparse.ArgumentTypeError(f"{text!r} has more than {GROUPS} groups")
+    if len(groups) > MAX_GROUPS:
+        raise argparse.ArgumentTypeError(f"{text!r} has more than {MAX_GROUPS} groups")
     return Proc(number(parts[0]), number(parts[1]), groups, parts[3], parts[4] if len(parts) > 4 else None)
 
 
@@ -92,16 +91,16 @@ def own_process() -> Proc:
     if sets.left_out:
         notes.append(f"left out: capabilities of the process: {','.join(sets.left_out)}")
     notes += [f"{name} of the process stands as {len(SPLIT[name])} capabilities" for name in sets.split]
-    if len(groups) > GROUPS:
-        notes.append(f"left out: {len(groups) - GROUPS} of the {len(groups)} groups of the process")
-    return Proc(os.geteuid(), os.getegid(), groups[:GROUPS], sets.text, notes=tuple(notes))
+    if len(groups) > MAX_GROUPS:
+        notes.append(f"left out: {len(groups) - MAX_GROUPS} of the {len(groups)} groups of the process")
+    return Proc(os.geteuid(), os.getegid(), groups[:MAX_GROUPS], sets.text, notes=tuple(notes))
 
 
 def add_arguments(parser: argparse.ArgumentParser) -> None:
     """Adds the arguments of the question."""
     parser.add_argument("directory", metavar="DIR", type=named, help="the directory that becomes the root of the world")
     parser.add_argument("--bytes", metavar="N", type=read_bytes, default=0,
-                        help="take the first N bytes of each file, 0 to 65536; 0 by default")
+                        help=f"take the first N bytes of each file, 0 to {MAX_FILE_BYTES}; 0 by default")
     parser.add_argument("--proc", metavar="UID:GID:GROUPS:CAPS[:LABEL]", type=read_proc, action="append", default=[],
                         help="a process; without this option the one process is that of who asks")
     parser.add_argument("--labels", metavar="FILE", type=named,
