@@ -1,152 +1,68 @@
-"""The question `flow`: whether bytes of an object get to a process or to another object, and by which calls."""
+"""The question `flow`: whether bytes of a file get to a process or to another object, and by which calls.
+
+The script is looked for in the model of the kernel, and what is found is played by `labsys` in the world itself.
+"""
 import argparse
 import dataclasses
-from dataclasses import dataclass, field
-from typing import Any, Dict, Iterator, List, Optional, Sequence, Tuple
+from dataclasses import dataclass
+from typing import Any, Dict, Iterator, List, Optional, Sequence, Tuple, Union
 
-from labask.answers import NOT_ABSENT, PLAYED, WrongWords, table, write_json
+from labask.answers import PLAYED, Status, WrongWords, table, write_json
 from labask.command_words import number
+from labask.effort import Effort, add_effort_arguments, effort_of
+from labask.kernel.calls import MOST_FILE_BYTES, Call as KernelCall
+from labask.kernel.state import Labels, first_state
+from labask.kernel.texts import call_text
 from labask.observing import with_observer
-from labask.playing import Outcome, Played, Player
+from labask.playing import Outcome, Played, Player, PlayingFault
+from labask.search.finding import Ending, Line, Result, Search
+from labask.search.problem import MARK, Problem
+from labask.search.side_by_side import results
+from labask.sets import objects_named, processes_named
 from labask.signatures import CAPABILITIES
-from labask.spreading import Actor, Hop, Holder, Place, Run, Spread, Step
-from labask.worlds import Kind, World, canonical_path, path_word, quoted, read_file, read_world
+from labask.worlds import Kind, World, WorldObject, path_word, quoted, read_file, read_world
 
 DEPTH = 16
+STATES = 20_000
 MOST_BYTES = 64
 STAND_IN = b"bytes of an empty file"
+Goal = Union[str, bytes]  # the tag of a process, or the path of an object
+LOOKED_FOR = """\
+Looked for are scripts of these calls by all processes and their children:
+  open, read, write, pipe, mkfifo, mkdir, link, unlink, rename, chdir, chmod, chown, cap_set_file, cap_set_fd, mac_set_file,
+  mac_set_fd, fork, exec, setuid, setgid, umask, cap_set_proc and mac_set_proc.
+Modes are 0777, for files with set-id bits too, and the umask is 0: more bits of a mode deny nothing. Capability sets are all that
+is permitted. Users, groups and labels are those of the world, and the highest label. Other calls only take away or answer."""
 
 
 def add_arguments(parser: argparse.ArgumentParser) -> None:
     """Adds the arguments of the question."""
     parser.add_argument("file", metavar="FILE", help="the world; its script is not played")
-    parser.add_argument("source", metavar="FROM", help="the path of the file whose bytes are followed")
-    parser.add_argument("goal", metavar="TO", help="a process n@label, or the path of a file or FIFO")
-    parser.add_argument("--depth", metavar="N", type=number, default=DEPTH, help=f"the most calls of a script; {DEPTH} by default")
+    parser.add_argument("source", metavar="FROM", help="the file whose bytes are followed: a path, a pattern, or label:LABEL")
+    parser.add_argument("goal", metavar="TO", help="a process n@label, the path of a file or FIFO, a pattern, or label:LABEL")
     parser.add_argument("--without", metavar="CAP", action="append", default=[], choices=CAPABILITIES,
                         help="look only for calls that do not use this capability; may be given several times")
+    parser.add_argument("--scripts", action="store_true", help="where there are several pairs, write the script of each")
+    add_search_arguments(parser)
 
 
-@dataclass
-class Instance:
-    """A process of a script: that of the world or a child of it. `opened` counts its descriptors."""
-    process: str
-    calls: Tuple[str, ...] = ()
-    opened: int = 0
-    tag: str = ""
+def add_search_arguments(parser: argparse.ArgumentParser) -> None:
+    """Adds the options that say how far a search goes."""
+    parser.add_argument("--depth", metavar="N", type=number, default=DEPTH, help=f"the most calls of a script; {DEPTH} by default")
+    parser.add_argument("--states", metavar="N", type=number, default=STATES, help=f"the most states that are looked at; {STATES} by default")
+    add_effort_arguments(parser)
 
 
-@dataclass
-class Writer:
-    """Makes a script of the steps of a way."""
-    world: World
-    goal: Holder
-    mark: bytes
-    instances: List[Instance] = field(default_factory=list)
-    pipes: Dict[str, int] = field(default_factory=dict)
-    body: List[Tuple[Instance, str]] = field(default_factory=list)
+@dataclass(frozen=True)
+class Limits:
+    """How far a search goes: the most calls of a script, and the most states that are looked at."""
+    depth: int = DEPTH
+    states: int = STATES
 
-    def instance(self, actor: Actor) -> Instance:
-        """The instance that acts as an actor: one that is there and can become it, or a new one; it gets into its state."""
-        there = (each for each in self.instances if each.process == actor.process and actor.calls[:len(each.calls)] == each.calls)
-        found = next(there, None)
-        if found is None:
-            found = Instance(actor.process)
-            self.instances.append(found)
-        for call in actor.calls[len(found.calls):]:
-            self.change(found, call)
-        return found
 
-    def change(self, one: Instance, call: str) -> None:
-        """Adds a call that changes an instance."""
-        self.body.append((one, call))
-        one.calls += (call,)
-
-    def opened(self, one: Instance, path: bytes, flags: str) -> str:
-        """Adds a call of `open`; gives a text that stands for the descriptor until it is known."""
-        self.body.append((one, f"open {path_word(path)} {flags}"))
-        one.opened += 1
-        return f"{{{one.opened - 1}}}"
-
-    def read(self, one: Instance, descriptor: str) -> None:
-        """Adds a call of `read`."""
-        self.body.append((one, f"read {descriptor} {len(self.mark)}"))
-
-    def write(self, one: Instance, descriptor: str) -> None:
-        """Adds a call of `write`."""
-        self.body.append((one, f"write {descriptor} {quoted(self.mark)}"))
-
-    def hop(self, hop: Hop, holding: Optional[Instance]) -> Optional[Instance]:
-        """Adds the calls of a step; gives the instance that holds the bytes then, if one does."""
-        if hop.step is Step.READ:
-            one = self.instance(hop.actor)
-            self.read(one, self.opened(one, hop.source.path, "r"))
-            return one
-        if hop.step is Step.RELABEL:
-            self.body.append((self.instance(hop.actor), f"mac_set_file {path_word(hop.target.path)} {hop.target.label}"))
-            return None
-        if hop.step is Step.CHANGE:
-            self.change(holding, hop.call)
-            return holding
-        if hop.step is Step.FIFO:
-            return self.through_fifo(hop, holding)
-        if hop.step is Step.PIPE:
-            return self.through_pipe(hop, holding)
-        flags = "wcx 0666" if hop.step is Step.CREATE else "w"
-        self.write(holding, self.opened(holding, hop.target.path, flags))
-        return None
-
-    def through_fifo(self, hop: Hop, holding: Instance) -> Instance:
-        """Adds the calls of a step through a FIFO, which is opened for reading first."""
-        reader = self.instance(hop.target if isinstance(hop.target, Actor) else hop.actor)
-        end = self.opened(reader, hop.through, "r")
-        self.write(holding, self.opened(holding, hop.through, "w"))
-        self.read(reader, end)
-        return reader
-
-    def through_pipe(self, hop: Hop, holding: Instance) -> Instance:
-        """Adds the calls of a step through a pipe, which the process of both instances makes at the start."""
-        number = self.pipes.setdefault(hop.target.process, 0)
-        self.pipes[hop.target.process] = number + 1
-        reader = Instance(hop.target.process)
-        self.instances.append(reader)
-        for call in hop.target.calls:
-            self.change(reader, call)
-        self.write(holding, str(2 * number + 1))
-        self.read(reader, str(2 * number))
-        return reader
-
-    def script(self, hops: Sequence[Hop]) -> List[str]:
-        """The lines of the script."""
-        holding: Optional[Instance] = None
-        for hop in hops:
-            holding = self.hop(hop, holding)
-        start = list(self.start(holding))
-        lines = []
-        for one, call in self.body:
-            base = 2 * self.pipes.get(one.process, 0)
-            words = call.split(" ", 2)
-            if len(words) == 3 and words[1].startswith("{"):
-                words[1] = str(base + int(words[1][1:-1]))
-            lines.append(f"{one.tag} {' '.join(words)}")
-        return [*start, *lines]
-
-    def start(self, holding: Optional[Instance]) -> Iterator[str]:
-        """The pipes and children that are made first; one instance of each process is the process itself."""
-        drawn: Dict[str, int] = {}
-        for each in self.world.processes:
-            drawn[each.label] = drawn.get(each.label, 0) + 1
-        for process in dict.fromkeys(each.process for each in self.instances):
-            own = [each for each in self.instances if each.process == process]
-            itself = holding if holding in own and self.goal == process else own[0]
-            itself.tag = process
-            yield from [f"{process} pipe"] * self.pipes.get(process, 0)
-            label = self.world.processes_by_tag[process].label
-            for each in own:
-                if each is not itself:
-                    drawn[label] += 1
-                    each.tag = f"{drawn[label]}@{label}"
-                    yield f"{process} fork"
+def limits_of(arguments: argparse.Namespace) -> Limits:
+    """The limits that a command line gives."""
+    return Limits(arguments.depth, arguments.states)
 
 
 @dataclass(frozen=True)
@@ -171,35 +87,83 @@ class Found:
     calls: Tuple[Call, ...]
 
 
-class Flow:
-    """The search for a script in a world, whose file FROM has bytes."""
+class ModelFault(PlayingFault):
+    """`labsys` answers a script otherwise than the model."""
 
-    def __init__(self, world: World, player: Player, source: bytes, goal: Holder, without: Sequence[str] = ()):
+
+class Flow:
+    """The search for a script in a world, whose file FROM has bytes; `goal` is the tag of a process or the path of an object."""
+
+    def __init__(self, world: World, player: Player, source: bytes, goal: Goal, without: Sequence[str] = (),
+                 effort: Optional[Effort] = None):
         self.player, self.source, self.goal, self.without = player, source, goal, without
         self.world = with_bytes(world, source)
         self.mark = self.world.objects_by_path[source].content[:MOST_BYTES]
-        self.actors = self.holders = 0
+        self.labels = Labels(world.policy)
+        self.effort = effort or Effort()
+        self.result = Result(Ending.NEVER)
+        self.found: Optional[Found] = None
+        self.search: Optional[Search] = None
 
-    def find(self, depth: int) -> Optional[Found]:
-        """A script that was found, with at most so many calls."""
-        asked = without_capabilities(self.world, self.without) if self.without else self.world
-        with Run(asked, self.player, self.goal if isinstance(self.goal, str) else None) as run:
-            run.make_actors(depth)
-            self.actors = len(run.known)
-            spread = Spread(run, self.source, self.goal, depth)
-            found = next((each for each in map(self.played, spread.ways()) if each is not None and len(each.calls) <= depth), None)
-            self.holders = len(spread.costs)
-            return found
+    def problem(self) -> Problem:
+        """What the search is asked."""
+        world = without_capabilities(self.world, self.without) if self.without else self.world
+        state = first_state(world, self.labels)
+        source = self.labels.number(world.objects_by_path[self.source].number)
+        state.put(source, state.things[source]._replace(content=MARK))
+        if isinstance(self.goal, str):
+            return Problem(state, source, process=self.labels.number(self.goal))
+        thing = self.labels.number(world.objects_by_path[self.goal].number)
+        return Problem(state, source, thing=thing, names=tuple(self.goal.strip(b"/").split(b"/")))
 
-    def played(self, hops: Sequence[Hop]) -> Optional[Found]:
-        """The script of a way, played in the world; None where it does not give the bytes there."""
-        lines = Writer(self.world, self.goal, self.mark).script(hops)
+    def find(self, depth: int = DEPTH, states: int = STATES) -> Optional[Found]:
+        """A shortest script, with at most so many calls."""
+        self.search = Search(self.problem(), self.accepts, self.effort.over, states)
+        self.result = self.search.find(depth)
+        return self.found
+
+    # ---- what is found
+
+    def accepts(self, script: Tuple[Line, ...]) -> bool:
+        """Whether a script of the model gives the bytes in the world, and uses no capability that it may not."""
+        tidied = self.tidied(script)
+        played = self.played(self.lines(tidied))
+        if played is None:
+            return False
+        self.found = played
+        return True
+
+    def tidied(self, script: Tuple[Line, ...]) -> Tuple[Line, ...]:
+        """The script with calls that ask for less, where it leads to the goal all the same."""
+        assert self.search is not None
+        for at, line in enumerate(script):
+            for call in less_than(line.call):
+                other = (*script[:at], Line(line.who, call), *script[at + 1:])
+                if self.search.replay(other) is not None:
+                    script = other
+                    break
+        return script
+
+    def lines(self, script: Sequence[Line]) -> List[str]:
+        """The lines of a script, with the bytes in place of the mark."""
+        return [f"{self.labels.number_text(line.who)} {call_text(self.with_bytes(line.call), self.labels)}" for line in script]
+
+    def with_bytes(self, call: KernelCall) -> KernelCall:
+        """A call that reads or writes, with the bytes in place of the mark."""
+        if call.name == "read" and call.arguments[1] == MOST_FILE_BYTES:
+            return KernelCall("read", (call.arguments[0], len(self.mark)))
+        return KernelCall("write", (call.arguments[0], self.mark)) if call.name == "write" else call
+
+    def played(self, lines: Sequence[str]) -> Optional[Found]:
+        """The script, played in the world; None where it uses a capability that it may not."""
         played = self.player.play_accepted(self.world.with_script(lines))
-        if any(reply.outcome is not Outcome.DONE for reply in played.replies) or not self.gives(lines, played):
-            return None
+        undone = next((reply for reply in played.replies if reply.outcome is not Outcome.DONE), None)
+        if not self.without and (undone is not None or not self.gives(lines, played)):
+            what = f"{lines[undone.number - 1]}: {undone.text}" if undone is not None else "the bytes do not arrive"
+            raise ModelFault(f"labsys answers otherwise than labask's model: {what}")
         records = self.player.select("all", played.trail)
         calls = tuple(self.call(number, line, played, records) for number, line in enumerate(lines, 1))
-        if any(set(call.used) & set(self.without) for call in calls):
+        if any(set(call.used) & set(self.without) for call in calls) or undone is not None or not self.gives(lines, played):
             return None
         return Found(self.world.with_script(lines), calls)
 
@@ -211,14 +175,38 @@ class Flow:
         return Call(line, played.replies[number - 1].text, used, gave)
 
     def gives(self, lines: Sequence[str], played: Played) -> bool:
-        """Whether the bytes are where they should be after the script: the last read gave them, or an observer reads them there."""
-        if isinstance(self.goal, str) or played.replies[-1].call == "read":
-            last = played.replies[-1]
+        """Whether the bytes are where they should be: the last read gave them, or an observer reads them there.
+
+        Of a FIFO it is enough that they were written: to read them takes them away.
+        """
+        last = played.replies[-1]
+        if isinstance(self.goal, str):
             return last.call == "read" and last.words[0].value == self.mark
+        if self.world.objects_by_path[self.goal].kind is Kind.FIFO and last.call == "write":
+            return True
         head, observer = with_observer(self.world)
-        asked = [*lines, f"{observer} open {path_word(self.goal.path)} r", f"{observer} read 0 {len(self.mark)}"]
+        asked = [*lines, f"{observer} open {path_word(self.there())} r", f"{observer} read 0 {len(self.mark)}"]
         replies = self.player.play_accepted(head + "".join(line + "\n" for line in asked).encode("latin-1")).replies
         return replies[-1].outcome is Outcome.DONE and replies[-1].words[0].value == self.mark
+
+    def there(self) -> bytes:
+        """The path of TO."""
+        assert isinstance(self.goal, bytes)
+        return self.goal
+
+
+def less_than(call: KernelCall) -> Iterator[KernelCall]:
+    """Calls that ask for less than a call of the search."""
+    arguments = call.arguments
+    if call.name == "open" and arguments[1] == "rwcx":
+        for flags, mode in (("wcx", 0o666), ("rwcx", 0o666), ("wcx", 0o777)):
+            yield KernelCall("open", (arguments[0], flags, mode))
+    if call.name == "mkfifo":
+        yield KernelCall("mkfifo", (arguments[0], 0o666))
+    if call.name == "cap_set_proc":
+        yield KernelCall("cap_set_proc", (arguments[0]._replace(inheritable=0),))
+    if call.name == "chmod" and arguments[1] == 0o777:
+        yield from (KernelCall("chmod", (arguments[0], mode)) for mode in (0o644, 0o666, 0o755))
 
 
 def with_bytes(world: World, path: bytes) -> World:
@@ -232,65 +220,166 @@ def with_bytes(world: World, path: bytes) -> World:
 
 def without_capabilities(world: World, names: Sequence[str]) -> World:
     """The world, where no process and no file has these capabilities."""
-    changed = {}
+    changed: Dict[int, Optional[bytes]] = {}
     for each in (*world.objects, *world.processes):
         if each.caps is not None:
             changed[each.line] = dataclasses.replace(each, caps=f"{each.caps} {','.join(names)}-eip").written
     return read_world(world.head(changed))
 
 
-def goal_of(world: World, text: str) -> Holder:
-    """What TO names: a process as its tag, or an object."""
-    tag = world.policy.canonical_tag(text)
-    if tag in world.processes_by_tag:
-        return tag
-    path = canonical_path(text.encode("utf-8", "surrogateescape"))
-    target = world.objects_by_path.get(path) if text.startswith("/") else None
-    if target is None:
-        raise WrongWords(f"the world has no process and no object {text}")
-    if target.kind is Kind.DIRECTORY:
-        raise WrongWords(f"{text} is a directory; bytes get to a file, a FIFO or a process")
-    return Place(path)
+# ---- what is asked
 
-
-def source_of(world: World, text: str) -> bytes:
-    """The path of FROM."""
-    path = canonical_path(text.encode("utf-8", "surrogateescape"))
-    target = world.objects_by_path.get(path)
-    if target is None or target.kind is not Kind.FILE:
+def sources_of(world: World, text: str) -> List[bytes]:
+    """The paths of the files that FROM names."""
+    found = [each.path for each in objects_named(world, text) if each.kind is Kind.FILE]
+    if not found:
         raise WrongWords(f"the world has no file {text}")
-    return path
+    return found
 
 
-def report(flow: Flow, found: Optional[Found], arguments: argparse.Namespace) -> Iterator[str]:
+def goals_of(world: World, text: str) -> List[Goal]:
+    """The processes and objects that TO names."""
+    found: List[Goal] = []
+    if text.startswith("label:"):
+        label = world.policy.canonical(text[len("label:"):])
+        found += [each.tag for each in world.processes if each.label == label]
+        found += [each.path for each in world.objects if each.label == label and each.kind is not Kind.DIRECTORY]
+    elif "@" in text and not text.startswith("/"):
+        found += [each.tag for each in processes_named(world, text)]
+    else:
+        found += goal_objects(text, objects_named(world, text) if text.startswith("/") else [])
+    if not found:
+        raise WrongWords(f"the world has no process and no object {text}")
+    return found
+
+
+def goal_objects(text: str, objects: Sequence[WorldObject]) -> List[Goal]:
+    """The files and FIFOs among objects."""
+    if len(objects) == 1 and objects[0].kind is Kind.DIRECTORY:
+        raise WrongWords(f"{text} is a directory; bytes get to a file, a FIFO or a process")
+    return [each.path for each in objects if each.kind is not Kind.DIRECTORY]
+
+
+def goal_text(goal: Goal) -> str:
+    """TO as a word."""
+    return goal if isinstance(goal, str) else path_word(goal)
+
+
+# ---- the answer
+
+@dataclass(frozen=True)
+class Answer:
+    """The answer for a pair: the script if one was found, and how the search ended."""
+    source: bytes
+    goal: Goal
+    found: Optional[Found]
+    result: Result
+
+    @property
+    def status(self) -> Status:
+        """The exit status of the answer alone."""
+        if self.found is not None:
+            return Status.YES
+        return Status.NO if self.result.ending is Ending.NEVER else Status.STOPPED
+
+    @property
+    def short(self) -> str:
+        """The answer as a cell of a table."""
+        return f"{len(self.found.calls)} calls" if self.found is not None else SHORT[self.result.ending]
+
+    def as_json(self) -> Dict[str, Any]:
+        """The answer as JSON has it."""
+        found = self.found
+        return {"played": True, "found": found is not None, "ending": self.result.ending.value, "from": self.source.decode("latin-1"),
+                "to": self.goal if isinstance(self.goal, str) else self.goal.decode("latin-1"),
+                "calls": [dataclasses.asdict(call) for call in found.calls] if found else [],
+                "world": found.world.decode("latin-1") if found else None, "excluded_calls": self.result.excluded,
+                "states": self.result.seen, "not_shown_to_be_absent": self.status is Status.STOPPED}
+
+
+SHORT = {Ending.NEVER: "never", Ending.DEPTH: "not found, the depth was reached", Ending.STATES: "stopped at the states",
+         Ending.TIME: "stopped at the time", Ending.FOUND: "not found"}
+
+
+def why_stopped(answer: Answer, limits: Limits) -> str:
+    """How a search ended that found nothing."""
+    result, excluded = answer.result, f"No script has at most {answer.result.excluded} calls; longer ones were not all tried."
+    if result.ending is Ending.NEVER:
+        return "No script of any length of the calls below does it, by the rules of labask's model of labsys."
+    if result.ending is Ending.DEPTH:
+        return f"Stopped at the depth: no script has at most {limits.depth} calls, and longer ones were not tried (--depth)."
+    if result.ending is Ending.TIME:
+        return f"Stopped at the time (--time). {excluded}"
+    return f"Stopped at {result.seen} states (--states {limits.states}). {excluded}"
+
+
+def report(answer: Answer, limits: Limits, without: Sequence[str]) -> Iterator[str]:
     """The lines of the answer; those before the world are comments of it."""
-    source, goal = path_word(flow.source), arguments.goal
+    source, goal, found = path_word(answer.source), goal_text(answer.goal), answer.found
     if found is None:
-        without = f" that do not use {' and '.join(arguments.without)}" if arguments.without else ""
-        yield f"No calls{without} were found by which the bytes of {source} get to {goal}, at most {arguments.depth} of them."
-        yield f"{flow.actors} states of processes were tried; {flow.holders} objects and states of processes held the bytes."
-        yield f"{PLAYED} {NOT_ABSENT}"
+        unused = f" that do not use {' and '.join(without)}" if without else ""
+        yield f"No calls{unused} were found by which the bytes of {source} get to {goal}."
+        yield why_stopped(answer, limits)
+        yield f"{answer.result.seen} states were looked at."
+        yield LOOKED_FOR
         return
     yield f"# The bytes of {source} get to {goal} by {len(found.calls)} calls:"
     yield from table([[call.text, call.reply, call.means] for call in found.calls], "#   ")
-    yield f"# {PLAYED} This is a world to play it in:"
+    yield f"# No script of fewer calls does it, by the rules of labask's model. {PLAYED} This is a world to play it in:"
     yield found.world.decode("latin-1").rstrip("\n")
+
+
+def report_all(answers: Sequence[Answer], pairs: int, scripts: bool) -> Iterator[str]:
+    """The lines of the answer for several pairs."""
+    rows = [["FROM", "TO", "ANSWER"]]
+    rows += [[path_word(each.source), goal_text(each.goal), each.short] for each in answers]
+    yield from table(rows)
+    for each in answers if scripts else ():
+        if each.found is not None:
+            yield f"# {path_word(each.source)} to {goal_text(each.goal)}:"
+            yield from table([[call.text, call.reply, call.means] for call in each.found.calls])
+    found = sum(each.found is not None for each in answers)
+    yield f"{pairs} pairs were asked, {len(answers)} were looked at, and {found} have a script. {PLAYED}"
+    yield LOOKED_FOR
+
+
+def ask(world: World, player: Player, pair: Tuple[bytes, Goal], without: Sequence[str], limits: Limits, effort: Effort) -> Answer:
+    """The answer for a pair."""
+    flow = Flow(world, player, *pair, without, effort)
+    found = flow.find(limits.depth, limits.states)
+    return Answer(*pair, found, flow.result)
+
+
+def answers_of(world: World, player: Player, pairs: Sequence[Tuple[bytes, Goal]], without: Sequence[str], limits: Limits,
+               effort: Effort) -> List[Answer]:
+    """The answers for pairs, as far as there is time; a single pair is always answered."""
+    if len(pairs) == 1:
+        return [ask(world, player, pairs[0], without, limits, effort)]
+    return [each for _, each in results(effort, lambda pair: ask(world, player, pair, without, limits, effort), pairs)]
+
+
+def status_of(answers: Sequence[Answer], pairs: int) -> Status:
+    """The exit status of all answers."""
+    statuses = {each.status for each in answers}
+    if Status.YES in statuses:
+        return Status.YES
+    return Status.STOPPED if Status.STOPPED in statuses or len(answers) < pairs else Status.NO
 
 
 def answer(arguments: argparse.Namespace, player: Player) -> int:
     """Answers the question."""
     text = read_file(arguments.file)
     player.check(text)
-    world = read_world(text)
-    source, goal = source_of(world, arguments.source), goal_of(world, arguments.goal)
-    if goal == Place(source):
+    world, limits, effort = read_world(text), limits_of(arguments), effort_of(arguments)
+    sources, goals = sources_of(world, arguments.source), goals_of(world, arguments.goal)
+    pairs = [(source, goal) for source in sources for goal in goals if source != goal]
+    if not pairs:
         raise WrongWords("FROM and TO are the same object")
-    flow = Flow(world, player, source, goal, arguments.without)
-    found = flow.find(arguments.depth)
-    if not arguments.json:
-        print("\n".join(report(flow, found, arguments)))
-        return 0
-    calls = [dataclasses.asdict(call) for call in found.calls] if found else []
-    write_json({"played": True, "found": found is not None, "from": source.decode("latin-1"), "to": arguments.goal, "calls": calls,
-                "world": found.world.decode("latin-1") if found else None, "not_shown_to_be_absent": found is None})
-    return 0
+    answers = answers_of(world, player, pairs, arguments.without, limits, effort)
+    if arguments.json:
+        write_json(answers[0].as_json() if len(pairs) == 1 else {"pairs": [each.as_json() for each in answers], "asked": len(pairs)})
+    elif len(pairs) == 1:
+        print("\n".join(report(answers[0], limits, arguments.without)))
+    else:
+        print("\n".join(report_all(answers, len(pairs), arguments.scripts)))
+    return status_of(answers, len(pairs))

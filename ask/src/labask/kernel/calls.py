@@ -4,7 +4,7 @@ from typing import Any, Callable, Dict, NamedTuple, Optional, Tuple
 
 from labask.kernel import rules
 from labask.kernel.rules import Stop, dac, mac_read, mac_write, need, owns
-from labask.kernel.state import NO_CAPS, Caps, Description, Kind, Label, Number, Process, Spot, State, Thing
+from labask.kernel.state import NO_CAPS, Cap, Caps, Description, Kind, Label, Number, Process, Spot, State, Thing
 
 MOST_DESCRIPTORS, MOST_NAMES = 32, 1_024
 MOST_PROCESSES, MOST_OBJECTS, MOST_DESCRIPTIONS = 4_095, 65_535, 65_535
@@ -39,17 +39,17 @@ class Found(NamedTuple):
     name: bytes
     thing: Optional[Number]
     letter: str
-    count: int
+    names: int
 
     @property
     def place(self) -> str:
         """The place of what the path leads to."""
-        return f"{self.letter}{self.count}"
+        return f"{self.letter}{self.names}"
 
     @property
     def directory_place(self) -> str:
         """The place of the last directory."""
-        return f"{self.letter}{self.count - 1}"
+        return f"{self.letter}{self.names - 1}"
 
 
 @dataclass
@@ -676,7 +676,7 @@ def call_getids(asked: Asked) -> Tuple[Any, ...]:
 def call_setuid(asked: Asked, user: int) -> Tuple[Any, ...]:
     """`setuid`."""
     ids = asked.process.ids
-    if (ids.ruid, ids.euid, ids.suid) == (user, user, user) or asked.process.has(rules.Cap.SETUID):
+    if (ids.ruid, ids.euid, ids.suid) == (user, user, user) or asked.process.has(Cap.SETUID):
         asked.change(ids=ids._replace(ruid=user, euid=user, suid=user))
     else:
         need(asked.process, rules.SETUID, user in (ids.ruid, ids.suid), "self")
@@ -687,7 +687,7 @@ def call_setuid(asked: Asked, user: int) -> Tuple[Any, ...]:
 def call_setgid(asked: Asked, group: int) -> Tuple[Any, ...]:
     """`setgid`."""
     ids = asked.process.ids
-    if (ids.rgid, ids.egid, ids.sgid) == (group, group, group) or asked.process.has(rules.Cap.SETGID):
+    if (ids.rgid, ids.egid, ids.sgid) == (group, group, group) or asked.process.has(Cap.SETGID):
         asked.change(ids=ids._replace(rgid=group, egid=group, sgid=group))
     else:
         need(asked.process, rules.SETGID, group in (ids.rgid, ids.sgid), "self")

@@ -1,0 +1,160 @@
+"""How many calls are left at least: a lower bound, from steps whose facts are never lost.
+
+The bound is that of landmark cuts: again and again, a set of steps is found of which every script needs one.
+"""
+from collections import deque
+from typing import Deque, Dict, Iterable, List, NamedTuple, Optional, Sequence, Tuple
+
+from labask.search.facts import GOAL, TRUE, Fact, Step
+
+NEVER = 1 << 30
+
+
+class Reached(NamedTuple):
+    """What each fact and each step costs, and the dearest need of each step."""
+    facts: List[int]
+    steps: List[int]
+    dearest: List[int]
+
+
+class Task:
+    """Steps with numbers in place of facts."""
+
+    def __init__(self, steps: Sequence[Step]):
+        self.given = steps
+        self.numbers: Dict[Fact, int] = {TRUE: 0, GOAL: 1}
+        self.needs = [tuple({self.number(fact) for fact in step.needs} or {0}) for step in steps]
+        self.makes = [tuple({self.number(fact) for fact in step.makes}) for step in steps]
+        self.costs = [step.cost for step in steps]
+        self.needed: List[List[int]] = [[] for _ in self.numbers]
+        self.made: List[List[int]] = [[] for _ in self.numbers]
+        for at, (needs, makes) in enumerate(zip(self.needs, self.makes)):
+            for fact in needs:
+                self.needed[fact].append(at)
+            for fact in makes:
+                self.made[fact].append(at)
+
+    def number(self, fact: Fact) -> int:
+        """The number of a fact."""
+        return self.numbers.setdefault(fact, len(self.numbers))
+
+    def known(self, facts: Iterable[Fact]) -> List[int]:
+        """The numbers of the facts that some step needs."""
+        numbers = self.numbers
+        return [numbers[fact] for fact in facts if fact in numbers]
+
+    def reach(self, first: Iterable[int], costs: Sequence[int]) -> Reached:
+        """What all costs from these facts, where a step costs as much as its dearest need and itself."""
+        facts = [NEVER] * len(self.numbers)
+        steps, dearest = [NEVER] * len(costs), [-1] * len(costs)
+        left = [len(needs) for needs in self.needs]
+        waiting: Deque[Tuple[int, int]] = deque()
+        for fact in first:
+            facts[fact] = 0
+            waiting.append((0, fact))
+        while waiting:
+            cost, fact = waiting.popleft()
+            if facts[fact] < cost:
+                continue
+            for step in self.needed[fact]:
+                left[step] -= 1
+                if left[step] == 0:
+                    steps[step], dearest[step] = cost, fact
+                    self.spread(step, cost + costs[step], costs[step], facts, waiting)
+        return Reached(facts, steps, dearest)
+
+    def spread(self, step: int, cost: int, own: int, facts: List[int], waiting: Deque[Tuple[int, int]]) -> None:
+        """Notes what the facts that a step makes cost."""
+        for made in self.makes[step]:
+            if cost < facts[made]:
+                facts[made] = cost
+                if own:
+                    waiting.append((cost, made))
+                else:
+                    waiting.appendleft((cost, made))
+
+    def left(self, goal: Optional[int] = None) -> List[int]:
+        """How many calls are left at least to the goal where a fact is used, for each fact."""
+        found = [NEVER] * len(self.numbers)
+        found[1] = 0
+        waiting: Deque[int] = deque([1])
+        while waiting:
+            fact = waiting.popleft()
+            for step in self.made[fact]:
+                cost = found[fact] + self.costs[step]
+                for need in self.needs[step]:
+                    if cost < found[need]:
+                        found[need] = cost
+                        if self.costs[step]:
+                            waiting.append(need)
+                        else:
+                            waiting.appendleft(need)
+        return found
+
+    # ---- the bound
+
+    def bound(self, first: Sequence[int], reached: Reached, most: int) -> int:
+        """The bound from these facts, or any number above `most` where it is higher."""
+        costs, value = list(self.costs), 0
+        while reached.facts[1]:
+            if reached.facts[1] >= NEVER or value + reached.facts[1] > most:
+                return value + reached.facts[1]
+            cut = self.cut(first, reached, costs)
+            value += 1
+            for step in cut:
+                costs[step] -= 1
+            reached = self.reach(first, costs)
+        return value
+
+    def cut(self, first: Sequence[int], reached: Reached, costs: Sequence[int]) -> List[int]:
+        """Steps of which one is needed: those that lead into what is next to the goal without cost."""
+        near = self.near_goal(reached, costs)
+        seen = [False] * len(self.numbers)
+        waiting = list(first)
+        for fact in first:
+            seen[fact] = True
+        found: List[int] = []
+        while waiting:
+            fact = waiting.pop()
+            for step in self.needed[fact]:
+                if reached.dearest[step] != fact:
+                    continue
+                if any(near[made] for made in self.makes[step]):
+                    found.append(step)
+                    continue
+                for made in self.makes[step]:
+                    if not seen[made]:
+                        seen[made] = True
+                        waiting.append(made)
+        return found
+
+    def near_goal(self, reached: Reached, costs: Sequence[int]) -> List[bool]:
+        """The facts from which dearest needs lead to the goal without cost."""
+        near = [False] * len(self.numbers)
+        near[1] = True
+        waiting = [1]
+        while waiting:
+            for step in self.made[waiting.pop()]:
+                need = reached.dearest[step]
+                if costs[step] == 0 and need >= 0 and not near[need]:
+                    near[need] = True
+                    waiting.append(need)
+        return near
+
+    def plan(self, reached: Reached) -> List[int]:
+        """Steps that lead to the goal where nothing is lost."""
+        found: Dict[int, None] = {}
+        waiting, seen = [1], {1}
+        while waiting:
+            fact = waiting.pop()
+            if reached.facts[fact] == 0 and not any(reached.steps[step] == 0 for step in self.made[fact]):
+                continue
+            step = min((each for each in self.made[fact] if reached.steps[each] < NEVER),
+                       key=lambda each: reached.steps[each] + self.costs[each], default=None)
+            if step is None or reached.steps[step] + self.costs[step] > reached.facts[fact]:
+                continue
+            found[step] = None
+            new = [need for need in self.needs[step] if need not in seen]
+            seen.update(new)
+            waiting += new
+        return list(found)

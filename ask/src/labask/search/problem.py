@@ -1,0 +1,79 @@
+"""What is asked of a search: the first state, whose bytes are followed, and where they should get."""
+from dataclasses import dataclass, field
+from typing import Any, Dict, FrozenSet, List, NamedTuple, Optional, Tuple
+
+from labask.kernel.state import Kind, Label, Number, State, Thing
+from labask.search.facts import Credentials, Values, credentials_of
+
+MARK = b"\0the bytes that are followed\0"  # stands for them in the model, where no other object has it
+
+
+@dataclass(frozen=True)
+class Problem:
+    """A search: the first state with the mark in the object FROM, and TO: a process, or an object with the names of its path."""
+    state: State
+    source: Number
+    process: Optional[Number] = None
+    thing: Optional[Number] = None
+    names: Tuple[bytes, ...] = ()
+
+
+class Made(NamedTuple):
+    """What objects that a script makes are told apart by: their kind, first label, owner and group; of a pipe the family."""
+    kind: Kind
+    labels: FrozenSet[Label]
+    owners: Values
+    groups: Values
+    family: int = -1
+
+
+@dataclass
+class Cast:
+    """Who acts and on what. Processes that are alike are one family, and files that are alike in all but name and content one item."""
+    problem: Problem
+    families: List[List[Number]] = field(default_factory=list)
+    family_of: Dict[Number, int] = field(default_factory=dict)
+    items: List[List[Number]] = field(default_factory=list)
+    item_of: Dict[Number, int] = field(default_factory=dict)
+    kinds: List[Kind] = field(default_factory=list)
+    made: Dict[Made, int] = field(default_factory=dict)
+
+    def __post_init__(self) -> None:
+        families: Dict[Any, int] = {}
+        for number, process in self.problem.state.processes.items():
+            key = number if number == self.problem.process else credentials_of(process)
+            if key not in families:
+                families[key] = len(self.families)
+                self.families.append([])
+            self.families[families[key]].append(number)
+            self.family_of[number] = families[key]
+        items: Dict[Any, int] = {}
+        for number, thing in self.problem.state.things.items():
+            key = self.likeness(number, thing)
+            if key not in items:
+                items[key] = self.new_item(thing.kind)
+            self.items[items[key]].append(number)
+            self.item_of[number] = items[key]
+
+    def likeness(self, number: Number, thing: Thing) -> Any:
+        """What objects are equal in that are one item."""
+        kept = (self.problem.source, self.problem.thing)
+        if thing.kind is Kind.DIRECTORY or number in kept:
+            return number
+        return (self.problem.state.spots[number][0][0], thing._replace(content=b""))
+
+    def new_item(self, kind: Kind) -> int:
+        """One more item."""
+        self.items.append([])
+        self.kinds.append(kind)
+        return len(self.items) - 1
+
+    def made_item(self, made: Made) -> int:
+        """The item of objects that a script makes."""
+        if made not in self.made:
+            self.made[made] = self.new_item(made.kind)
+        return self.made[made]
+
+    def first_credentials(self, family: int) -> Credentials:
+        """The credentials that a family begins with."""
+        return credentials_of(self.problem.state.processes[self.families[family][0]])
