@@ -13,7 +13,7 @@ from strategies import read_label, worlds
 from support import TOP, labask
 
 from labask import flow
-from labask.spreading import Place
+from labask.answers import Status
 from labask.worlds import Kind, read_world
 
 WORLDS = 1000
@@ -31,7 +31,7 @@ def questions(draw):
     assume(files)
     source = draw(st.sampled_from(files))
     goals = [(process.tag, process.label) for process in world.processes]
-    goals += [(Place(each.path), each.label) for each in files if each is not source]
+    goals += [(each.path, each.label) for each in files if each is not source]
     goal, label = draw(st.sampled_from(goals))
     return world, source, goal, read_label(label).dominates(read_label(source.label))
 
@@ -54,7 +54,7 @@ def test_isolation(player):
 def test_leak_of_the_example(tmp_path, player):
     """It is found, its script gives the bytes, and it is gone after the first cut."""
     status, out, _ = labask("flow", EXAMPLE, LIST, ENGINEER)
-    assert status == 0 and f"{ENGINEER} exec /bin/backup" in out
+    assert status == Status.YES and f"{ENGINEER} exec /bin/backup" in out
     leak, cut = tmp_path / "leak.txt", tmp_path / "cut.txt"
     leak.write_text(out)
     replies = player.play_accepted(out.encode("latin-1")).replies
@@ -93,9 +93,9 @@ WAYS = {
     "a process gets another label":
         (CLOSED, 'file /a 0644 0 0 high "secret"\nfile /b 0666 0 0 low ""\nproc low 11 11 - "="\n'
          'proc high 10 10 - "cap_mac_relabel_subj=ep"\n', "/a", "/b", "mac_set_proc low"),
-    "a pipe":
+    "a set-user-ID program, and back":
         (CLOSED, 'file /a 0600 5 5 low "secret"\nfile /b 0600 10 10 low ""\nfile /x 4755 5 5 low "x"\nproc low 10 10 - "="\n', "/a",
-         "/b", "pipe"),
+         "/b", "setuid 10"),
     "a permitted capability":
         (OPEN, 'file /a 0600 5 5 low "secret"\nproc low 10 10 - "cap_dac_read_search=p"\n', "/a", "1@low", "cap_set_proc"),
 }

@@ -8,9 +8,11 @@ from typing import List, NamedTuple
 
 import pytest
 
-from support import labask, player
+from support import labask
 
-from labask.playing import Outcome
+from labask.playing import Outcome, Player
+
+pytestmark = pytest.mark.usefixtures("program")
 
 
 class Way(NamedTuple):
@@ -70,11 +72,11 @@ def asked(folder: pathlib.Path, lines: str, *words: str) -> "tuple[int, dict]":
 
 
 @pytest.mark.parametrize("way", WAYS, ids=[way.name for way in WAYS])
-def test_the_shortest_way_is_found(way: Way, tmp_path: pathlib.Path) -> None:
+def test_the_shortest_way_is_found(way: Way, tmp_path: pathlib.Path, player: Player) -> None:
     status, answer = asked(tmp_path, way.lines, way.source, way.goal)
     calls = [call["text"].split(" ", 1)[1] for call in answer["calls"]]
     assert (status, calls) == (3, way.calls)
-    played = player().play_accepted(answer["world"].encode("latin-1"))
+    played = player.play_accepted(answer["world"].encode("latin-1"))
     assert all(reply.outcome is Outcome.DONE for reply in played.replies)
 
 

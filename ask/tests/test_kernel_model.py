@@ -6,11 +6,10 @@ import os
 import random
 from typing import Iterator, List, Tuple
 
-from support import player, random_label
-
 from labask.kernel.calls import ROWS, play
 from labask.kernel.state import Labels, State, first_state
 from labask.kernel.texts import read_call, reply_text
+from labask.playing import Player
 from labask.signatures import CALLS, CAPABILITIES
 from labask.worlds import World, read_world, split_words
 
@@ -37,7 +36,8 @@ def file_sets(draw: random.Random) -> str:
 
 def label(draw: random.Random) -> str:
     """A label."""
-    return random_label(draw, LEVELS, CATEGORIES) + draw.choice(["", "", "/poor"])
+    names = ",".join(draw.sample(CATEGORIES, draw.choice([0, 0, 1, 2])))
+    return draw.choice(LEVELS) + (f":{names}" if names else "") + draw.choice(["", "", "/poor"])
 
 
 def world_text(draw: random.Random) -> bytes:
@@ -57,11 +57,11 @@ def world_text(draw: random.Random) -> bytes:
     return ("\n".join([*lines, "script"]) + "\n").encode()
 
 
-def accepted_world(draw: random.Random) -> World:
+def accepted_world(draw: random.Random, player: Player) -> World:
     """A random world that labsys accepts: lines that it refuses are taken away."""
     text = world_text(draw)
     while True:
-        refusal = player().play(text).refusal
+        refusal = player.play(text).refusal
         if refusal is None:
             return read_world(text)
         lines = text.split(b"\n")
@@ -115,13 +115,13 @@ def test_the_model_has_every_call() -> None:
     assert set(ROWS) == set(CALLS)
 
 
-def test_the_model_answers_as_labsys() -> None:
-    asked, seen = player(), set()
+def test_the_model_answers_as_labsys(player: Player) -> None:
+    seen = set()
     for seed in range(WORLDS):
         draw = random.Random(f"model {seed}")
-        world = accepted_world(draw)
+        world = accepted_world(draw, player)
         lines, replies = zip(*script(draw, world, Labels(world.policy)))
-        played = asked.play_accepted(world.with_script(lines)).replies
+        played = player.play_accepted(world.with_script(lines)).replies
         for line, own, due in zip(lines, replies, played):
             seen.add((due.call, due.outcome, due.error, due.check))
             assert own == due.text, f"world {seed}, call {due.number}: {line}"

@@ -8,7 +8,6 @@ from dataclasses import dataclass
 from typing import Any, Dict, Iterator, List, Optional, Sequence, Tuple, Union
 
 from labask.answers import PLAYED, Status, WrongWords, table, write_json
-from labask.command_words import number
 from labask.effort import Effort, add_effort_arguments, effort_of
 from labask.kernel.calls import MOST_FILE_BYTES, Call as KernelCall
 from labask.kernel.state import Labels, first_state
@@ -16,14 +15,13 @@ from labask.kernel.texts import call_text
 from labask.observing import with_observer
 from labask.playing import Outcome, Played, Player, PlayingFault
 from labask.search.finding import Ending, Line, Result, Search
+from labask.search.limits import DEPTH, STATES, Limits, add_limit_arguments, limits_of
 from labask.search.problem import MARK, Problem
 from labask.search.side_by_side import results
 from labask.sets import objects_named, processes_named
 from labask.signatures import CAPABILITIES
 from labask.worlds import Kind, World, WorldObject, path_word, quoted, read_file, read_world
 
-DEPTH = 16
-STATES = 20_000
 MOST_BYTES = 64
 STAND_IN = b"bytes of an empty file"
 Goal = Union[str, bytes]  # the tag of a process, or the path of an object
@@ -43,26 +41,8 @@ def add_arguments(parser: argparse.ArgumentParser) -> None:
     parser.add_argument("--without", metavar="CAP", action="append", default=[], choices=CAPABILITIES,
                         help="look only for calls that do not use this capability; may be given several times")
     parser.add_argument("--scripts", action="store_true", help="where there are several pairs, write the script of each")
-    add_search_arguments(parser)
-
-
-def add_search_arguments(parser: argparse.ArgumentParser) -> None:
-    """Adds the options that say how far a search goes."""
-    parser.add_argument("--depth", metavar="N", type=number, default=DEPTH, help=f"the most calls of a script; {DEPTH} by default")
-    parser.add_argument("--states", metavar="N", type=number, default=STATES, help=f"the most states that are looked at; {STATES} by default")
+    add_limit_arguments(parser)
     add_effort_arguments(parser)
-
-
-@dataclass(frozen=True)
-class Limits:
-    """How far a search goes: the most calls of a script, and the most states that are looked at."""
-    depth: int = DEPTH
-    states: int = STATES
-
-
-def limits_of(arguments: argparse.Namespace) -> Limits:
-    """The limits that a command line gives."""
-    return Limits(arguments.depth, arguments.states)
 
 
 @dataclass(frozen=True)

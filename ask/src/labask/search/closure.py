@@ -6,7 +6,7 @@ from typing import Any, Callable, DefaultDict, Dict, Iterator, List, Optional, S
 from labask.kernel import rules
 from labask.kernel.state import NO_CAPS, Cap, Caps, Kind, Label, State, Thing
 from labask.search.facts import (ACTS, AS, AT, CAN, CAPS, CWD, DONE, ENTRY, EXECUTE, FREE, GOAL, GOT, GROUP, HEARD, HOLDS, IN, LABEL, MANY, MARK,
-                                 MODE, ON_PATH, OPENED, OWN, OWNER, READ, SEARCH, SEE, TAINT, TRUE, UMASK, WRITE, Credentials, Fact, Right,
+                                 MODE, ON_PATH, OPENED, OWN, OWNER, RAN, READ, SEARCH, SEE, TAINT, TRUE, UMASK, WRITE, Credentials, Fact, Right,
                                  Step, Values, View, one)
 from labask.search.problem import Cast, Made, Problem
 
@@ -17,11 +17,13 @@ RIGHTS = {right.name: right for right in (READ, SEARCH, WRITE, EXECUTE, SEE, MAR
 MOST_CREDENTIALS = 4_000
 
 
-# How many calls follow at least after a call where TO is a process, where TO is an object, and where TO is a process that makes it.
-LEAST: Dict[str, Tuple[int, int, int]] = {
-    "read": (2, 1, 0), "write": (1, 0, 1), "become": (2, 1, 1), "open": (2, 1, 1), "make": (2, 1, 2), "chmod": (2, 1, 2),
-    "chown": (2, 1, 2), "label": (1, 1, 1), "caps": (2, 2, 2), "move": (2, 0, 2), "chdir": (2, 1, 2), "umask": (3, 2, 3),
-    "fork": (1, 1, 1), "pipe": (2, 2, 2), "mkfifo": (4, 3, 4), "mkdir": (3, 1, 3), "free": (2, 1, 2),
+# How many calls follow at least after a call: where TO is a process that does not make it, where TO is an object, where TO is the process
+# that makes it, and where a program is to be executed.
+LEAST: Dict[str, Tuple[int, int, int, int]] = {
+    "read": (2, 1, 0, 2), "write": (1, 0, 1, 2), "become": (2, 1, 1, 1), "open": (2, 1, 1, 2), "make": (2, 1, 2, 2), "chmod": (2, 1, 2, 1),
+    "chown": (2, 1, 2, 1), "label": (1, 1, 1, 1), "caps": (2, 2, 2, 2), "move": (2, 0, 2, 1), "chdir": (2, 1, 2, 1),
+    "umask": (3, 2, 3, 3), "fork": (1, 1, 1, 1), "pipe": (2, 2, 2, 2), "mkfifo": (4, 3, 4, 3), "mkdir": (3, 1, 3, 2),
+    "free": (2, 1, 2, 1),
 }
 
 
@@ -122,7 +124,7 @@ class Closure:
         if self.bound is None:
             return True
         goal = self.problem.process
-        column = 1 if goal is None else 2 if self.cast.family_of[goal] == family else 0
+        column = 3 if self.problem.program is not None else 1 if goal is None else 2 if self.cast.family_of[goal] == family else 0
         return self.bound - self.rounds >= LEAST[what][column]
 
     def collect_of(self, family: int, one: int, focus: Set[int], renew: bool, seen: Set[int]) -> List[Fact]:
@@ -155,7 +157,11 @@ class Closure:
                 for directory, _ in state.spots.get(number, ()):
                     self.births[item].add(cast.item_of[directory])
                     yield (ENTRY, cast.item_of[directory], item)
-        yield (TAINT, cast.item_of[self.problem.source])
+        if self.problem.source is not None:
+            yield (TAINT, cast.item_of[self.problem.source])
+        if self.problem.knows is not None:
+            family = cast.family_of[self.problem.knows]
+            yield (HOLDS, family, self.number(cast.first_credentials(family)))
         if self.problem.thing is not None:
             yield (ON_PATH, 0, cast.item_of[state.root])
 
@@ -397,7 +403,9 @@ class Closure:
         """Adds the steps to the goal."""
         problem, cast = self.problem, self.cast
         goals: List[Tuple[Fact, ...]] = []
-        if problem.process is not None:
+        if problem.program is not None:
+            goals = [((RAN,),)]
+        elif problem.process is not None:
             family = cast.family_of[problem.process]
             goals = [(fact,) for fact in self.facts if fact[:2] == (HOLDS, family)]
         else:
@@ -561,8 +569,17 @@ class Actor:
                 yield self.step(("chdir", item), [self.got(item), self.inside(item)], [(CWD, self.family, item)])
         elif self.due("open"):
             yield from self.opening(item)
+        if self.is_program(item) and self.can(item, SEE, EXECUTE):
+            yield self.step(("run", item), [self.got(item), *self.conditions(item, SEE, EXECUTE)], [(RAN,)])
         if self.can(item, MARK):
             yield from self.changing(item)
+
+    def is_program(self, item: int) -> bool:
+        """Whether an object is the program that this one is to execute."""
+        cast, problem = self.all.cast, self.all.problem
+        if problem.program is None or problem.process is None:
+            return False
+        return cast.item_of[problem.program] == item and cast.family_of[problem.process] == self.family
 
     def opening(self, item: int) -> Iterator[Step]:
         """Opening a file or FIFO."""

@@ -11,6 +11,7 @@ Fact = Tuple[Any, ...]
 ACTS = "acts"        # family, credentials: one of the family has them
 AS = "as"            # family, view: one of the family is judged so
 HOLDS = "holds"      # family, credentials: one with them has read the bytes
+RAN = "ran"          # family: it has executed the program that is asked for
 CWD = "cwd"          # family, directory: it is a current directory
 OPENED = "opened"    # family, object, "r" or "w": a descriptor is open so
 MANY = "many"        # family: it has two processes or more

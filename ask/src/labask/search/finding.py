@@ -37,6 +37,7 @@ class Node:
     holds: FrozenSet[Number]
     families: Dict[Number, int]
     items: Dict[Number, int]
+    ran: bool = False
 
 
 @dataclass
@@ -122,7 +123,8 @@ class Search:
 
     def first_node(self) -> Node:
         """The first state."""
-        return Node(self.problem.state, frozenset(), dict(self.cast.family_of), dict(self.cast.item_of))
+        holds = frozenset((self.problem.knows,)) if self.problem.knows is not None else frozenset()
+        return Node(self.problem.state, holds, dict(self.cast.family_of), dict(self.cast.item_of))
 
     def facts(self, node: Node) -> Iterator[Fact]:
         """The facts of a state."""
@@ -178,6 +180,8 @@ class Search:
 
     def reaches(self, node: Node) -> bool:
         """Whether the bytes are where they should get."""
+        if self.problem.program is not None:
+            return node.ran
         if self.problem.process is not None:
             return self.problem.process in node.holds
         assert self.problem.thing is not None
@@ -260,6 +264,8 @@ class Search:
         state, reply = play(node.state, line.who, line.call)
         if not reply.done:
             return None
+        if line.call.name == "exec" and line.who == self.problem.process and self.is_program(node, line):
+            return Node(state, node.holds, node.families, node.items, True)
         holds, families, items = node.holds, node.families, node.items
         if line.call.name == "read":
             if MARK not in reply.answer[0]:
@@ -272,6 +278,14 @@ class Search:
         if len(state.things) > len(node.state.things):
             items = {**items, **{number: self.made_item(node, line.who, state, number) for number in state.things if number not in items}}
         return Node(state, holds, families, items)
+
+    def is_program(self, node: Node, line: Line) -> bool:
+        """Whether a line executes the program that is asked for."""
+        path: Path = line.call.arguments[0]
+        here: Optional[Number] = node.state.root if path.absolute else node.state.processes[line.who].cwd
+        for name in path.names:
+            here = node.state.names.get(here, {}).get(name) if here is not None else None
+        return here is not None and here == self.problem.program
 
     def made_item(self, node: Node, who: Number, state: State, number: Number) -> int:
         """The item of an object that was made."""
@@ -373,7 +387,7 @@ class Instances:
             if name == "chown":
                 yield from (Call(name, (path, *ids)) for ids in self.owners(rest[0], self.state.things[number]))
             else:
-                yield Call(name, (path, *([] if name in ("exec", "chdir") else rest[1:])))
+                yield Call("exec" if name == "run" else name, (path, *([] if name in ("exec", "run", "chdir") else rest[1:])))
 
     def owners(self, item: int, thing: Thing) -> Iterator[Tuple[int, int]]:
         """The owners and groups that are asked for."""

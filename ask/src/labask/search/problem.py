@@ -10,12 +10,17 @@ MARK = b"\0the bytes that are followed\0"  # stands for them in the model, where
 
 @dataclass(frozen=True)
 class Problem:
-    """A search: the first state with the mark in the object FROM, and TO: a process, or an object with the names of its path."""
+    """A search: the first state, with the mark in the object FROM or with a process that knows it, and TO.
+
+    TO is a process, or an object with the names of its path. Where `program` is given, the process is to execute it.
+    """
     state: State
-    source: Number
+    source: Optional[Number] = None
     process: Optional[Number] = None
     thing: Optional[Number] = None
     names: Tuple[bytes, ...] = ()
+    knows: Optional[Number] = None
+    program: Optional[Number] = None
 
 
 class Made(NamedTuple):
@@ -41,7 +46,7 @@ class Cast:
     def __post_init__(self) -> None:
         families: Dict[Any, int] = {}
         for number, process in self.problem.state.processes.items():
-            key = number if number == self.problem.process else credentials_of(process)
+            key = number if number in (self.problem.process, self.problem.knows) else credentials_of(process)
             if key not in families:
                 families[key] = len(self.families)
                 self.families.append([])
@@ -57,7 +62,7 @@ class Cast:
 
     def likeness(self, number: Number, thing: Thing) -> Any:
         """What objects are equal in that are one item."""
-        kept = (self.problem.source, self.problem.thing)
+        kept = (self.problem.source, self.problem.thing, self.problem.program)
         if thing.kind is Kind.DIRECTORY or number in kept:
             return number
         return (self.problem.state.spots[number][0][0], thing._replace(content=b""))
