@@ -1,6 +1,7 @@
 """The question `cuts`: which single changes of the world have a call denied, and how many other replies each changes."""
 import argparse
 import dataclasses
+import importlib
 import re
 from dataclasses import dataclass
 from typing import Any, Dict, Iterator, List, Optional, Sequence, Set, Tuple, Union
@@ -8,9 +9,10 @@ from typing import Any, Dict, Iterator, List, Optional, Sequence, Set, Tuple, Un
 from labask.answers import NOT_ABSENT, PLAYED, WrongWords, table, write_json
 from labask.capability_texts import read_sets
 from labask.command_words import number
-from labask.effort import default_effort
+from labask.effort import Effort, add_effort_arguments, effort_of
 from labask.observing import prefixes
 from labask.playing import Outcome, Played, Player, Reply, Session
+from labask.search.limits import add_limit_arguments
 from labask.signatures import CALLS, CAPABILITIES, UTILITIES, arguments_of
 from labask.worlds import Policy, ScriptLine, World, WorldObject, WorldProcess, canonical_path, path_word, read_file, read_world
 
@@ -38,8 +40,14 @@ class Cut:
 def add_arguments(parser: argparse.ArgumentParser) -> None:
     """Adds the arguments of the question."""
     parser.add_argument("file", metavar="FILE", help="the world with its script")
-    parser.add_argument("call", metavar="N", type=number, help="the number of a call that is done, from 1")
+    parser.add_argument("call", metavar="N", nargs="?", type=number, help="the number of a call that is done, from 1")
+    parser.add_argument("--flow", metavar=("FROM", "TO"), nargs=2, help="in place of a call: the changes after which no bytes of the file "
+                        "FROM get to TO")
+    parser.add_argument("--keep", metavar="SCRIPT", help="with --flow, a file with the script whose replies stay the same; the world's own "
+                        "by default")
     parser.add_argument("--apply", metavar="K", type=number, help="write the world with the change in row K of the answer instead")
+    add_limit_arguments(parser)
+    add_effort_arguments(parser)
 
 
 # ---- changes
@@ -192,10 +200,9 @@ class Cutter:
         played = self.player.play(text)
         return played.replies if played.status == 0 else None
 
-    def cuts(self) -> List[Cut]:
+    def cuts(self, effort: Effort) -> List[Cut]:
         """The changes after which the call is not done, those first that change the fewest other replies."""
         changes = list(changes_of(self.world, touched(self.world, self.call)))
-        effort = default_effort()
         found: List[Cut] = []
         for count, (change, replies) in enumerate(zip(changes, effort.results(self.replies, changes)), 1):
             effort.progress(f"cuts: {count} of {len(changes)} changes")
@@ -244,6 +251,10 @@ def applied(cutter: Cutter, found: Sequence[Cut], row: int) -> str:
 
 def answer(arguments: argparse.Namespace, player: Player) -> int:
     """Answers the question."""
+    if arguments.flow is not None:
+        return int(importlib.import_module("labask.flow_cuts").answer_flow(arguments, player))
+    if arguments.call is None:
+        raise WrongWords("the number of a call is missing, or --flow FROM TO")
     text = read_file(arguments.file)
     played = player.play_accepted(text)
     world = read_world(text)
@@ -253,7 +264,7 @@ def answer(arguments: argparse.Namespace, player: Player) -> int:
     if reply.outcome is not Outcome.DONE:
         raise WrongWords(f"call {arguments.call} is not done as it is: {reply.text}")
     cutter = Cutter(world, played, player, arguments.call)
-    found = cutter.cuts()
+    found = cutter.cuts(effort_of(arguments))
     if arguments.apply is not None:
         print(applied(cutter, found, arguments.apply), end="")
     elif arguments.json:

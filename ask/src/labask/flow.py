@@ -20,7 +20,7 @@ from labask.search.problem import MARK, Problem
 from labask.search.side_by_side import results
 from labask.sets import objects_named, processes_named
 from labask.signatures import CAPABILITIES
-from labask.worlds import Kind, World, WorldObject, path_word, quoted, read_file, read_world
+from labask.worlds import Kind, World, WorldObject, WorldProcess, path_word, quoted, read_file, read_world
 
 MOST_BYTES = 64
 STAND_IN = b"bytes of an empty file"
@@ -57,7 +57,8 @@ class Call:
     def means(self) -> str:
         """What the call used."""
         parts = ["by " + ",".join(self.used)] if self.used else []
-        return "; ".join(parts + ([f"it gives {quoted(self.gave.encode())}"] if self.gave not in (None, "=") else []))
+        gave = [] if self.gave is None or self.gave == "=" else [f"it gives {quoted(self.gave.encode())}"]
+        return "; ".join(parts + gave)
 
 
 @dataclass(frozen=True)
@@ -74,11 +75,11 @@ class ModelFault(PlayingFault):
 class Flow:
     """The search for a script in a world, whose file FROM has bytes; `goal` is the tag of a process or the path of an object."""
 
-    def __init__(self, world: World, player: Player, source: bytes, goal: Goal, without: Sequence[str] = (),
+    def __init__(self, world: World, player: Player, source: Optional[bytes], goal: Goal, without: Sequence[str] = (),
                  effort: Optional[Effort] = None):
         self.player, self.source, self.goal, self.without = player, source, goal, without
-        self.world = with_bytes(world, source)
-        self.mark = self.world.objects_by_path[source].content[:MOST_BYTES]
+        self.world = with_bytes(world, source) if source is not None else world
+        self.mark = self.world.objects_by_path[source].content[:MOST_BYTES] if source is not None else MARK
         self.labels = Labels(world.policy)
         self.effort = effort or Effort()
         self.result = Result(Ending.NEVER)
@@ -87,6 +88,7 @@ class Flow:
 
     def problem(self) -> Problem:
         """What the search is asked."""
+        assert self.source is not None
         world = without_capabilities(self.world, self.without) if self.without else self.world
         state = first_state(world, self.labels)
         source = self.labels.number(world.objects_by_path[self.source].number)
@@ -201,7 +203,8 @@ def with_bytes(world: World, path: bytes) -> World:
 def without_capabilities(world: World, names: Sequence[str]) -> World:
     """The world, where no process and no file has these capabilities."""
     changed: Dict[int, Optional[bytes]] = {}
-    for each in (*world.objects, *world.processes):
+    things: List[Union[WorldObject, WorldProcess]] = [*world.objects, *world.processes]
+    for each in things:
         if each.caps is not None:
             changed[each.line] = dataclasses.replace(each, caps=f"{each.caps} {','.join(names)}-eip").written
     return read_world(world.head(changed))

@@ -16,6 +16,7 @@ from labask.answers import PLAYED, Status, show_table, write_json
 from labask.effort import Effort, add_effort_arguments, effort_of
 from labask.kernel_profile import MAX_DESCRIPTION_NUMBER, MAX_INPUT, MAX_LINE, MAX_PATH, MAX_PATH_NAMES, MAX_PROCESS_NUMBER
 from labask.playing import Outcome, Player, Played, read_reply
+from labask.search.limits import add_limit_arguments
 from labask.sets import objects_named, processes_named
 from labask.worlds import Kind, World, WorldObject, WorldProcess, parent_path, path_word, read_file, read_world, split_words
 
@@ -115,6 +116,8 @@ def add_arguments(parser: argparse.ArgumentParser) -> None:
     parser.add_argument("--process", metavar="PROCESS", action="append", default=[],
                         help="the processes to ask about: n@label, or label:LABEL; all by default; may be given several times")
     parser.add_argument("--ever", action="store_true", help="ask what a process can come to do by any calls, not by a single one")
+    parser.add_argument("--calls", action="store_true", help="with --ever, write the calls of each answer")
+    add_limit_arguments(parser)
     add_effort_arguments(parser)
 
 

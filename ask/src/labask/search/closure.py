@@ -81,7 +81,7 @@ class Closure:
         things, processes = self.state.things.values(), self.state.processes.values()
         users = {each.owner for each in things} | {each.ids.ruid for each in processes}
         groups = {each.group for each in things} | {group for each in processes for group in (each.ids.rgid, *each.ids.groups)}
-        labels = {each.label for each in (*things, *processes)} | {self.state.top}
+        labels = {each.label for each in things} | {each.label for each in processes} | {self.state.top}
         return sorted(users), sorted(groups), sorted(labels)
 
     # ---- collecting
@@ -253,6 +253,10 @@ class Closure:
         if self.cast.kinds[item] is Kind.DIRECTORY:
             return [name for name in self.names[directory] if not last or len(self.names[directory]) > 1]
         return [self.problem.names[-1]] if last and (TAINT, item) in self.facts else []
+
+    def is_replaced(self, target: int) -> bool:
+        """Whether an object can be replaced by one call: a directory that has entries would have to lose them, and is moved away instead."""
+        return not any(self.state.names.get(number) for number in self.cast.items[target])
 
     def entry_fact(self, state: State, directory: int, name: bytes) -> Fact:
         """What a name of the path TO leads to in a directory of the first state."""
@@ -624,7 +628,8 @@ class Actor:
 
     def owner(self, item: int) -> List[Fact]:
         """The fact that an object is this one's own; none where it can't be."""
-        return [(OWNER, item, user) for user in self.credentials.users[1] if user in self.all.values[OWNER, item]][:1]
+        found: List[Fact] = [(OWNER, item, user) for user in self.credentials.users[1] if user in self.all.values[OWNER, item]]
+        return found[:1]
 
     def chmod(self, item: int, needs: List[Fact]) -> Iterator[Step]:
         """Changing the mode."""
@@ -693,7 +698,9 @@ class Actor:
         """Making an object of a kind, under a new name or one of the path TO."""
         item = self.made(kind)
         umask: Fact = (UMASK, self.family)
-        ways: List[Tuple[List[Fact], int]] = [([], NEW_MODE)] + ([([umask], OPEN_MODE)] if umask in self.all.facts else [])
+        ways: List[Tuple[List[Fact], int]] = [([], NEW_MODE)]
+        if umask in self.all.facts:
+            ways.append(([umask], OPEN_MODE))
         for (more, mode), name in itertools.product(ways, [None, *self.all.names[directory]]):
             makes = [*self.made_facts(item, mode), (ENTRY, directory, item)]
             self.all.births[item].add(directory)
@@ -755,7 +762,7 @@ class Actor:
             yield self.step(("rename", old, item, directory, name), [*needs, (FREE, directory, name)], makes)
         for target in self.all.at[directory, name][:1]:
             alike = (self.kinds[target] is Kind.DIRECTORY) == (self.kinds[item] is Kind.DIRECTORY)
-            if target != item and alike and self.can(target, MARK):
+            if target != item and alike and self.all.is_replaced(target) and self.can(target, MARK):
                 more = [(AT, directory, name, target), *self.conditions(target, MARK)]
                 yield self.step(("rename over", old, item, directory, name, target), [*needs, *more], makes)
 

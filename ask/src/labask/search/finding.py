@@ -12,6 +12,7 @@ from labask.search.facts import (ACTS, AS, AT, CWD, ENTRY, FREE, GOAL, HEARD, HO
                                  credentials_of, one)
 from labask.search.problem import MARK, Made, Problem
 
+STEPS_FOR_A_STATE = 50  # as many steps may be collected for each state that may be looked at
 MOST_ALIKE = 3  # objects that are alike in all but name and content of which a script uses as many
 
 
@@ -102,6 +103,8 @@ class Search:
             if self.over():
                 raise StopSearch(Ending.TIME)
             self.closure.advance()
+            if len(self.closure.steps) > STEPS_FOR_A_STATE * self.most:
+                raise StopSearch(Ending.STATES)
         self.closure.derive()
         whole, first = Task(list(self.closure.steps.values())), self.first_node()
         start = whole.known(self.facts(first))

@@ -5,7 +5,7 @@ from dataclasses import dataclass
 from labask.command_words import number
 
 DEPTH = 16
-STATES = 20_000
+STATES = 2_000
 
 
 @dataclass(frozen=True)

@@ -1,0 +1,230 @@
+"""The question `cuts --flow`: the fewest changes of the world after which no bytes of FROM get to TO."""
+import argparse
+from dataclasses import dataclass
+from typing import Any, Dict, FrozenSet, Iterator, List, Optional, Sequence, Set, Tuple
+
+from labask.answers import Status, WrongWords, table, write_json
+from labask.cuts import Change, changes_of, differing, touched
+from labask.effort import Effort, effort_of
+from labask.flow import LOOKED_FOR, Flow, Found, Goal, goals_of, sources_of
+from labask.flow import Answer as FlowAnswer
+from labask.flow import report as flow_report
+from labask.kernel.calls import Call, Path, play
+from labask.kernel.rules import mode_allows
+from labask.kernel.state import Kind, Labels, first_state
+from labask.playing import Player, Reply
+from labask.search.finding import Ending, Line, Search
+from labask.search.limits import Limits, limits_of
+from labask.search.side_by_side import results
+from labask.worlds import World, read_file, read_world
+
+Changes = Tuple[Change, ...]
+MOST_PAIRS = 2_000
+
+
+@dataclass(frozen=True)
+class Cut:
+    """Changes after which no flow is found, and how many rights to read are lost by them at the start."""
+    changes: Changes
+    lost: int
+
+    @property
+    def words(self) -> str:
+        """The changes in words."""
+        return "; ".join(change.words for change in self.changes)
+
+
+@dataclass(frozen=True)
+class Tried:
+    """What came of changes: how the search ended, the script that is left, and whether the script to keep is kept."""
+    ending: Optional[Ending]
+    script: Tuple[Line, ...] = ()
+    found: Optional[Found] = None
+    kept: bool = True
+
+
+class FlowCutter:
+    """Looks for changes of a world after which no flow is found."""
+
+    def __init__(self, world: World, player: Player, source: bytes, goal: Goal, keep: bytes, limits: Limits, effort: Effort):
+        self.world, self.player, self.source, self.goal, self.limits, self.effort = world, player, source, goal, limits, effort
+        self.keep = keep
+        self.due: List[Reply] = player.play_accepted(world.head() + keep).replies
+        self.known: List[Tuple[Line, ...]] = []
+        self.rights = self.readable(world)
+        self.tried = self.undecided = self.lost_replies = 0
+
+    # ---- what comes of changes
+
+    def changed(self, changes: Changes) -> World:
+        """The world after changes."""
+        return read_world(self.world.head({change.line: change.text for change in changes}))
+
+    def goal_in(self, world: World) -> Goal:
+        """TO in a changed world, where a process may have another number."""
+        if isinstance(self.goal, bytes):
+            return self.goal
+        at = [each.tag for each in self.world.processes].index(self.goal)
+        return world.processes[at].tag
+
+    def flow(self, world: World) -> Flow:
+        """The search in a changed world."""
+        return Flow(world, self.player, self.source, self.goal_in(world), (), self.effort)
+
+    def try_changes(self, changes: Changes) -> Tried:
+        """What comes of changes: nothing where the world is refused then, or a known script still does it."""
+        world = self.changed(changes)
+        if self.player.play(world.head()).status != 0:
+            return Tried(None)
+        same = all(one.tag == other.tag for one, other in zip(world.processes, self.world.processes))
+        flow = self.flow(world)
+        if same and any(self.leads(flow, script) for script in self.known):
+            return Tried(None)
+        if not self.keeps(world, changes, same):
+            return Tried(None, kept=False)
+        found = flow.find(self.limits.depth, self.limits.states)
+        return Tried(flow.result.ending, flow.result.script, found)
+
+    def leads(self, flow: Flow, script: Tuple[Line, ...]) -> bool:
+        """Whether a script leads to TO in a changed world, by the model."""
+        search = Search(flow.problem(), lambda _: True, lambda: False, 1)
+        return search.replay(script) is not None
+
+    def keeps(self, world: World, changes: Changes, same: bool) -> bool:
+        """Whether the script to keep has the same replies."""
+        if not self.due:
+            return True
+        played = self.player.play(world.head() + self.keep)
+        relabels = any(change.relabels for change in changes)
+        return same and played.status == 0 and not differing(played.replies, self.due, relabels)
+
+    def readable(self, world: World) -> Set[Tuple[int, bytes]]:
+        """Which process may read which object at the start, by the model; processes count from 0."""
+        labels = Labels(world.policy)
+        state = first_state(world, labels)
+        found = set()
+        for at, process in enumerate(state.processes.values()):
+            for line in world.objects:
+                names = tuple(name for name in line.path.split(b"/") if name)
+                done = play(state, labels.number(world.processes[at].tag), Call("stat", (Path(True, names),)))[1].done
+                thing = state.things[labels.number(line.number)]
+                if done and (thing.kind is Kind.DIRECTORY or mode_allows(thing, process, 4)):
+                    found.add((at, line.path))
+        return found
+
+    # ---- the search for changes
+
+    def candidates(self, script: Sequence[Line], found: Found) -> List[Change]:
+        """The single changes of what a script names or passes, and of those who act in it."""
+        world = read_world(found.world)
+        acting = {line.text.split(" ")[0] for line in world.script}
+        lines = {process.line for process in self.world.processes if process.tag not in acting}
+        return [each for each in changes_of(self.world, touched(world, len(script))) if each.line not in lines]
+
+    def cuts(self) -> Optional[List[Cut]]:
+        """The fewest changes, those that lose the fewest rights first; None where there is no flow to cut."""
+        flow = self.flow(self.world)
+        found = flow.find(self.limits.depth, self.limits.states)
+        self.first = FlowAnswer(self.source, self.goal, found, flow.result)
+        if found is None:
+            return None
+        self.known.append(flow.result.script)
+        singles = [(change,) for change in self.candidates(flow.result.script, found)]
+        cuts, left = self.try_all(singles, "single changes")
+        return cuts or self.pairs(left)
+
+    def try_all(self, all_changes: Sequence[Changes], what: str) -> Tuple[List[Cut], List[Tuple[Changes, Tried]]]:
+        """The cuts among changes, and those that leave another flow."""
+        cuts: List[Cut] = []
+        left: List[Tuple[Changes, Tried]] = []
+        for changes, tried in results(self.effort, self.try_changes, all_changes):
+            self.tried += 1
+            self.effort.progress(f"cuts: {self.tried} of {len(all_changes)} {what}")
+            self.lost_replies += not tried.kept
+            if tried.ending is Ending.NEVER:
+                cuts.append(Cut(changes, len(self.rights - self.readable(self.changed(changes)))))
+            elif tried.ending is Ending.FOUND:
+                left.append((changes, tried))
+            elif tried.ending is not None:
+                self.undecided += 1
+        self.effort.clear()
+        return sorted(cuts, key=lambda cut: cut.lost), left
+
+    def pairs(self, left: Sequence[Tuple[Changes, Tried]]) -> List[Cut]:
+        """The cuts of two changes: each of those that leave another flow, with a change of what that flow has."""
+        found: Dict[FrozenSet[Change], Changes] = {}
+        for changes, tried in left:
+            assert tried.found is not None
+            for other in self.candidates(tried.script, tried.found):
+                if other.line != changes[0].line:
+                    found.setdefault(frozenset((changes[0], other)), (changes[0], other))
+        self.known += [tried.script for _, tried in left][:20]
+        if len(found) > MOST_PAIRS:
+            self.effort.stopped = True
+        return self.try_all(list(found.values())[:MOST_PAIRS], "pairs of changes")[0]
+
+
+def kept_script(world: World, name: Optional[str]) -> bytes:
+    """The script whose replies are kept: that of a file, after its line `script` if it has one, or the world's own."""
+    if name is None:
+        return b"".join(line.text + b"\n" for line in world.lines[world.script_line:])
+    text = read_file(name)
+    _, found, script = text.partition(b"\nscript\n")
+    return script if found else text
+
+
+def report(cutter: FlowCutter, cuts: Sequence[Cut]) -> Iterator[str]:
+    """The lines of the answer."""
+    if cuts:
+        rows = [["ROW", "LOST", "LINE", "CHANGE"]]
+        rows += [[str(row), str(cut.lost), ",".join(str(change.line) for change in cut.changes), cut.words]
+                 for row, cut in enumerate(cuts, 1)]
+        yield from table(rows)
+        yield "LOST is how many objects processes may no longer read at the start."
+    what = "single changes" if all(len(cut.changes) == 1 for cut in cuts) else "changes, single and in pairs"
+    yield f"{cutter.tried} {what} were tried; after {len(cuts)} of them no script of any length is left, by the rules of labask's model."
+    if cutter.lost_replies:
+        yield f"{cutter.lost_replies} more were left out since they change replies of the script that is kept."
+    if cutter.undecided or cutter.effort.stopped:
+        yield f"{cutter.undecided} were not decided, since the search stopped early{' and others not tried' if cutter.effort.stopped else ''}."
+    yield f"The flows that are cut were played by labsys. {LOOKED_FOR}"
+
+
+def as_json(cutter: FlowCutter, cuts: Sequence[Cut]) -> Dict[str, Any]:
+    """The answer as JSON has it."""
+    return {"played": True, "flow": cutter.first.as_json(), "tried": cutter.tried, "undecided": cutter.undecided,
+            "whole": not cutter.effort.stopped, "changed_replies": cutter.lost_replies,
+            "cuts": [{"lost": cut.lost, "changes": [{"line": change.line, "change": change.words, "text": change.text.decode("latin-1")}
+                                                    for change in cut.changes]} for cut in cuts]}
+
+
+def status_of(cutter: FlowCutter, cuts: Sequence[Cut]) -> Status:
+    """The exit status: yes where there are cuts."""
+    if cuts:
+        return Status.YES
+    return Status.STOPPED if cutter.undecided or cutter.effort.stopped else Status.NO
+
+
+def answer_flow(arguments: argparse.Namespace, player: Player) -> int:
+    """Answers the question."""
+    text = read_file(arguments.file)
+    player.check(text)
+    world, limits = read_world(text), limits_of(arguments)
+    sources, goals = sources_of(world, arguments.flow[0]), goals_of(world, arguments.flow[1])
+    if len(sources) != 1 or len(goals) != 1 or sources[0] == goals[0]:
+        raise WrongWords("--flow takes one file FROM and another TO, each a single one")
+    cutter = FlowCutter(world, player, sources[0], goals[0], kept_script(world, arguments.keep), limits, effort_of(arguments))
+    cuts = cutter.cuts()
+    if cuts is None:
+        print("\n".join(flow_report(cutter.first, limits, ())))
+        return int(cutter.first.status)
+    if arguments.apply is not None:
+        if not 1 <= arguments.apply <= len(cuts):
+            raise WrongWords(f"there are {len(cuts)} rows; there is no row {arguments.apply}")
+        changes = cuts[arguments.apply - 1].changes
+        print((world.head({change.line: change.text for change in changes}) + kept_script(world, None)).decode("latin-1"), end="")
+    elif arguments.json:
+        write_json(as_json(cutter, cuts))
+    else:
+        print("\n".join(report(cutter, cuts)))
+    return int(status_of(cutter, cuts))
