@@ -65,6 +65,7 @@ class Closure:
         self.acting: DefaultDict[int, List[int]] = defaultdict(list)
         self.allowed: Set[Tuple[int, int, str]] = set()
         self.searched: Dict[Tuple[int, int], Set[int]] = {}
+        self.becomes: DefaultDict[Tuple[int, int], List[int]] = defaultdict(list)
         self.births: DefaultDict[int, Set[int]] = defaultdict(set)
         self.enterers: DefaultDict[int, Set[int]] = defaultdict(set)
         self.starts: Dict[int, Set[int]] = {}
@@ -223,11 +224,15 @@ class Closure:
             self.renew.add(fact[1])
         if kind == DONE:
             self.follow(fact)
+        if kind == HOLDS:
+            for new in self.becomes[fact[1], fact[2]]:
+                self.add((HOLDS, fact[1], new))
 
     def follow(self, fact: Fact) -> None:
         """What a change of credentials makes: it keeps what was read."""
         _, family, old, new = fact
         self.add((ACTS, family, new))
+        self.becomes[family, old].append(new)
         step = Step(0, ((HOLDS, family, old), fact), ((HOLDS, family, new),))
         self.steps[fact] = step
         if (HOLDS, family, old) in self.facts:
