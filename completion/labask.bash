@@ -15,16 +15,16 @@ _labask() {
     case $question in
     '') options="--labsys --help --version" ;;
     check) options="--all --least" ;;
-    who) options="--process --ever --jobs --time --quiet" ;;
+    who) options="--process --ever --calls --depth --states --jobs --time --quiet" ;;
     why) options="--against --process --jobs --time --quiet" ;;
-    flow) options="--depth --without" ;;
-    cuts) options="--apply" ;;
+    flow) options="--without --scripts --depth --states --jobs --time --quiet" ;;
+    cuts) options="--flow --keep --apply --depth --states --jobs --time --quiet" ;;
     page) options="--output --label" ;;
     world) options="--bytes --proc --labels --root-user" ;;
     trace) options="--directory --as --start --umask" ;;
     esac
     case $before in
-    --json | --help | --version | --all | --least | --ever | --quiet) ;;
+    --json | --help | --version | --all | --least | --ever | --calls | --scripts | --quiet) ;;
     --*) return ;; # its value, which may be the name of a file
     esac
     if [ -z "$question" ]; then

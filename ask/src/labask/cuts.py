@@ -6,7 +6,7 @@ import re
 from dataclasses import dataclass
 from typing import Any, Dict, Iterator, List, Optional, Sequence, Set, Tuple, Union
 
-from labask.answers import NOT_ABSENT, PLAYED, WrongWords, table, write_json
+from labask.answers import NOT_ABSENT, PLAYED, Status, WrongWords, table, write_json
 from labask.capability_texts import read_sets
 from labask.command_words import number
 from labask.effort import Effort, add_effort_arguments, effort_of
@@ -62,8 +62,8 @@ def mode_changes(target: WorldObject) -> Iterator[Tuple[str, Thing]]:
 def capability_changes(thing: Thing) -> Iterator[Tuple[str, Thing]]:
     """The changes that take one capability from the sets."""
     sets = read_sets(thing.caps) if thing.caps is not None else None
-    for name in CAPABILITIES if sets else ():
-        if name in sets.effective | sets.inheritable | sets.permitted:
+    for name in CAPABILITIES if sets is not None else ():
+        if sets is not None and name in sets.effective | sets.inheritable | sets.permitted:
             yield f"without {name}", dataclasses.replace(thing, caps=f"{thing.caps} {name}-eip")
 
 
@@ -263,13 +263,18 @@ def answer(arguments: argparse.Namespace, player: Player) -> int:
     reply = played.replies[arguments.call - 1]
     if reply.outcome is not Outcome.DONE:
         raise WrongWords(f"call {arguments.call} is not done as it is: {reply.text}")
-    cutter = Cutter(world, played, player, arguments.call)
-    found = cutter.cuts(effort_of(arguments))
+    cutter, effort = Cutter(world, played, player, arguments.call), effort_of(arguments)
+    found = cutter.cuts(effort)
     if arguments.apply is not None:
         print(applied(cutter, found, arguments.apply), end="")
-    elif arguments.json:
-        write_json({"played": True, "call": arguments.call, "reply": reply.text, "tried": cutter.tried,
+        return Status.DONE
+    if arguments.json:
+        write_json({"played": True, "call": arguments.call, "reply": reply.text, "tried": cutter.tried, "whole": not effort.stopped,
                     "cuts": [cut_as_json(cut) for cut in found]})
     else:
         print("\n".join(report(cutter, found)))
-    return 0
+        if effort.stopped:
+            print("It was stopped early; other changes were not tried.")
+    if found:
+        return Status.YES
+    return Status.STOPPED if effort.stopped else Status.NO

@@ -308,7 +308,8 @@ def report(answer: Answer, limits: Limits, without: Sequence[str]) -> Iterator[s
         return
     yield f"# The bytes of {source} get to {goal} by {len(found.calls)} calls:"
     yield from table([[call.text, call.reply, call.means] for call in found.calls], "#   ")
-    yield f"# No script of fewer calls does it, by the rules of labask's model. {PLAYED} This is a world to play it in:"
+    yield f"# No script of fewer calls of the kinds that are looked for does it, by labask's model. {PLAYED}"
+    yield "# This is a world to play it in:"
     yield found.world.decode("latin-1").rstrip("\n")
 
 

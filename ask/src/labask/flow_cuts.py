@@ -186,7 +186,8 @@ def report(cutter: FlowCutter, cuts: Sequence[Cut]) -> Iterator[str]:
     if cutter.lost_replies:
         yield f"{cutter.lost_replies} more were left out since they change replies of the script that is kept."
     if cutter.undecided or cutter.effort.stopped:
-        yield f"{cutter.undecided} were not decided, since the search stopped early{' and others not tried' if cutter.effort.stopped else ''}."
+        untried = " Other changes were not tried." if cutter.effort.stopped else ""
+        yield f"{cutter.undecided} were not decided, since their search stopped early.{untried}"
     yield f"The flows that are cut were played by labsys. {LOOKED_FOR}"
 
 
@@ -223,7 +224,8 @@ def answer_flow(arguments: argparse.Namespace, player: Player) -> int:
             raise WrongWords(f"there are {len(cuts)} rows; there is no row {arguments.apply}")
         changes = cuts[arguments.apply - 1].changes
         print((world.head({change.line: change.text for change in changes}) + kept_script(world, None)).decode("latin-1"), end="")
-    elif arguments.json:
+        return Status.DONE
+    if arguments.json:
         write_json(as_json(cutter, cuts))
     else:
         print("\n".join(report(cutter, cuts)))

@@ -5,9 +5,10 @@ from typing import Any, Callable, DefaultDict, Dict, Iterator, List, Optional, S
 
 from labask.kernel import rules
 from labask.kernel.state import NO_CAPS, Cap, Caps, Kind, Label, State, Thing
-from labask.search.facts import (ACTS, AS, AT, CAN, CAPS, CWD, DONE, ENTRY, EXECUTE, FREE, GOAL, GOT, GROUP, HEARD, HOLDS, IN, LABEL, MANY, MARK,
-                                 MODE, ON_PATH, OPENED, OWN, OWNER, RAN, READ, SEARCH, SEE, TAINT, TRUE, UMASK, WRITE, Credentials, Fact, Right,
-                                 Step, Values, View, one)
+from labask.search.facts import (ACTS, AS, AT, CAN, CAPS, CWD, DONE, ENTRY, EXECUTE, FREE, GOAL, GOT, GROUP, HEARD, HOLDS, IN, LABEL,
+                                 MANY, MARK, MODE, ON_PATH, OPENED, OWN, OWNER, RAN, READ, SEARCH,
+                                 SEE, TAINT, TRUE, UMASK, WRITE, Credentials, Fact, Right, Step,
+                                 Values, View, one)
 from labask.search.problem import Cast, Made, Problem
 
 ATTRIBUTES = (LABEL, OWNER, GROUP, MODE, CAPS)
@@ -260,7 +261,7 @@ class Closure:
         return [self.problem.names[-1]] if last and (TAINT, item) in self.facts else []
 
     def is_replaced(self, target: int) -> bool:
-        """Whether an object can be replaced by one call: a directory that has entries would have to lose them, and is moved away instead."""
+        """Whether an object can be replaced by one call; a directory with entries is moved away instead."""
         return not any(self.state.names.get(number) for number in self.cast.items[target])
 
     def entry_fact(self, state: State, directory: int, name: bytes) -> Fact:
@@ -672,7 +673,8 @@ class Actor:
             needs += [(MANY, self.family)] if self.kinds[item] is Kind.PIPE else []
             yield self.own_step(("read", item), needs, [(HOLDS, self.family, self.one)])
         holds = (HOLDS, self.family, self.one)
-        if how == "w" and self.due("write") and holds in self.all.facts and self.can(item, MARK) and (not stream or (HEARD, item) in self.all.facts):
+        heard = not stream or (HEARD, item) in self.all.facts
+        if how == "w" and self.due("write") and holds in self.all.facts and heard and self.can(item, MARK):
             needs = [holds, opened, *self.conditions(item, MARK), *([(HEARD, item)] if stream else [])]
             yield self.own_step(("write", item), needs, [(TAINT, item)])
 

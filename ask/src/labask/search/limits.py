@@ -18,7 +18,8 @@ class Limits:
 def add_limit_arguments(parser: argparse.ArgumentParser) -> None:
     """Adds the options that say how far a search goes."""
     parser.add_argument("--depth", metavar="N", type=number, default=DEPTH, help=f"the most calls of a script; {DEPTH} by default")
-    parser.add_argument("--states", metavar="N", type=number, default=STATES, help=f"the most states that are looked at; {STATES} by default")
+    parser.add_argument("--states", metavar="N", type=number, default=STATES,
+                        help=f"the most states that are looked at; {STATES} by default")
 
 
 def limits_of(arguments: argparse.Namespace) -> Limits:
