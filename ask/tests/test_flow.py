@@ -1,6 +1,6 @@
 """`flow`: isolation holds in random worlds, and ways of each kind are found and give the bytes.
 
-By isolation, no bytes get to what does not dominate their object where there are no capabilities: this is asked of a thousand random
+By isolation, no bytes get to what does not dominate their object where there are no capabilities: this is asked of 400 random
 worlds without capabilities and set-id bits.
 """
 import collections
@@ -16,7 +16,7 @@ from labask import flow
 from labask.answers import Status
 from labask.worlds import Kind, read_world
 
-WORLDS = 1000
+WORLDS = 400
 EXAMPLE = TOP / "examples" / "backup_for_all.txt"
 LIST = "/pay/list of may"
 ENGINEER = "1@internal:eng"
@@ -43,7 +43,7 @@ def test_isolation(player):
     @given(questions())
     def ask(question):
         world, source, goal, above = question
-        found = flow.Flow(world, player, source.path, goal).find(10)
+        found = flow.Flow(world, player, source.path, goal).find(6, 200)
         counts.update(found=found is not None, below=not above)
         assert found is None or above, f"{source.path} of {source.label} gets to {goal}: {found.calls}"
 

@@ -41,8 +41,8 @@ class Kind(enum.Enum):
         return self in (Kind.FIFO, Kind.PIPE)
 
 
-class Cap(enum.IntFlag):
-    """A set of capabilities."""
+class Cap:
+    """The bits of capabilities in a set. They are plain numbers, since a set is asked millions of times."""
     CHOWN = 1 << 0
     DAC_EXECUTE = 1 << 1
     DAC_READ_SEARCH = 1 << 2

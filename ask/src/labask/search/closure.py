@@ -102,24 +102,26 @@ class Closure:
     def collect(self, over: Callable[[], bool]) -> "Closure":
         """Collects until nothing comes to be any more."""
         while not self.ended:
-            if over():
+            if not self.advance(over):
                 self.whole = False
                 break
-            self.advance()
         self.derive_goal()
         return self
 
-    def advance(self) -> None:
-        """Adds what comes to be by one more call."""
+    def advance(self, over: Callable[[], bool]) -> bool:
+        """Adds what comes to be by one more call; gives whether it did so to its end."""
         self.rounds += 1
         focus, renew, pending = self.changed, self.renew, []
         self.changed, self.renew = set(), set()
         for family in range(len(self.cast.families)):
             seen: Set[int] = set()
             for one in list(self.acting[family])[-1 if self.merged else 0:]:
+                if over():
+                    return False
                 pending += self.collect_of(family, one, focus, family in renew, seen)
         for fact in pending:
             self.add(fact)
+        return True
 
     def due(self, family: int, what: str) -> bool:
         """Whether so many calls are left after a call of the present round as have to follow it at least."""
@@ -346,8 +348,14 @@ class Closure:
         if self.merged:
             return True
         if not self.cast.items[item]:
-            return self.cast.kinds[item] is not Kind.FILE or (TAINT, item) in self.facts or len(self.values[MODE, item]) > 2
+            return self.is_made_moved(item)
         return any(item not in self.at_start(view) for view in self.enterers[directory])
+
+    def is_made_moved(self, item: int) -> bool:
+        """Whether an object that a script makes is moved: a FIFO, a file with the bytes or more modes, a directory that holds the bytes."""
+        if self.cast.kinds[item] is Kind.DIRECTORY:
+            return any((TAINT, child) in self.facts for child in self.children[item])
+        return self.cast.kinds[item] is not Kind.FILE or (TAINT, item) in self.facts or len(self.values[MODE, item]) > 2
 
     def cwds(self, family: int) -> List[Fact]:
         """The facts of the current directories of a family."""

@@ -69,8 +69,9 @@ class Search:
         self.numbers: Dict[Any, int] = {}
         self.seen = 0
         self.bound = 0
-        self.task = Task([])
-        self.left: List[int] = []
+        self.kept: List[Tuple[int, Step]] = []
+        self.tasks: Dict[int, Task] = {}
+        self.forks: List[Step] = []
         self.failed: Dict[Any, int] = {}
 
     def find(self, depth: int) -> Result:
@@ -100,9 +101,8 @@ class Search:
         self.closure = Closure(self.problem, bound).begin()
         self.cast, self.numbers = self.closure.cast, {}
         for _ in range(bound):
-            if self.over():
+            if not self.closure.advance(self.over):
                 raise StopSearch(Ending.TIME)
-            self.closure.advance()
             if len(self.closure.steps) > STEPS_FOR_A_STATE * self.most:
                 raise StopSearch(Ending.STATES)
         self.closure.derive()
@@ -117,10 +117,17 @@ class Search:
     def narrow(self, whole: Task, reached: Reached, left: Sequence[int], bound: int) -> None:
         """Keeps the steps that a script of so many calls can have."""
         self.bound, self.failed = bound, {}
-        kept = [step for at, step in enumerate(whole.given)
-                if reached.steps[at] + step.cost + min(left[made] for made in whole.makes[at]) <= bound]
-        self.task = Task(kept)
-        self.left = self.task.left()
+        self.kept = [(step.cost + min(left[made] for made in whole.makes[at]), step) for at, step in enumerate(whole.given)
+                     if reached.steps[at] + step.cost + min(left[made] for made in whole.makes[at]) <= bound]
+        self.tasks = {}
+        families = {step.family for _, step in self.kept if step.cost}
+        self.forks = [step for step in whole.given if step.words == ("fork",) and step.family in families]
+
+    def task_of(self, left: int) -> Task:
+        """The steps of which so many calls, with those that follow them at least, can be the rest of a script."""
+        if left not in self.tasks:
+            self.tasks[left] = Task([step for due, step in self.kept if due <= left])
+        return self.tasks[left]
 
     # ---- states
 
@@ -247,20 +254,16 @@ class Search:
             raise StopSearch(Ending.STATES)
         if self.over():
             raise StopSearch(Ending.TIME)
-        task = self.task
+        task = self.task_of(left)
         first = list(dict.fromkeys(task.known(self.facts(node))))
         reached = task.reach(first, task.costs)
-        if task.bound(first, reached, left) > left:
+        bound = task.bound(first, reached, left)
+        if bound > left:
             return []
         planned = set(task.plan(reached))
-        found = [(at not in planned, at) for at, step in enumerate(task.given)
-                 if step.cost and reached.steps[at] == 0 and self.is_near(at, left)]
-        return [task.given[at] for _, at in sorted(found)]
-
-    def is_near(self, at: int, left: int) -> bool:
-        """Whether a step may be of use with so many calls; `fork` is where a family has others to make."""
-        step = self.task.given[at]
-        return 1 + min(self.left[made] for made in self.task.makes[at]) <= left or step.words[0] == "fork"
+        found = [(at not in planned, at) for at, step in enumerate(task.given) if step.cost and reached.steps[at] == 0]
+        forks = self.forks if bound < left else []  # a child is what its parent is then, which the bound does not count
+        return [*(task.given[at] for _, at in sorted(found)), *forks]
 
     def after(self, node: Node, line: Line) -> Optional[Node]:
         """The state after a line; None where the call is not done or nothing changes."""
@@ -394,7 +397,7 @@ class Instances:
 
     def owners(self, item: int, thing: Thing) -> Iterator[Tuple[int, int]]:
         """The owners and groups that are asked for."""
-        known = self.search.task.numbers
+        known = self.search.task_of(self.search.bound).numbers
         users = [user for user in self.search.closure.users if ("owner", item, user) in known or user == thing.owner]
         groups = [group for group in self.search.closure.groups if ("group", item, group) in known or group == thing.group]
         groups.sort(key=lambda group: group != thing.group)
