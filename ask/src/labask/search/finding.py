@@ -13,6 +13,7 @@ from labask.search.facts import (ACTS, AS, AT, CWD, ENTRY, FREE, GOAL, HEARD, HO
 from labask.search.problem import MARK, Made, Problem
 
 STEPS_FOR_A_STATE = 50  # as many steps may be collected for each state that may be looked at
+PROVED_FROM = 4  # calls from which on it is asked first whether a script of any length is there; shorter ones are found sooner
 MOST_ALIKE = 3  # objects that are alike in all but name and content of which a script uses as many
 
 
@@ -76,10 +77,9 @@ class Search:
 
     def find(self, depth: int) -> Result:
         """Looks for a script of at most so many calls."""
-        merged = self.closure.begin().collect(self.over)
-        if GOAL not in merged.facts and merged.whole:
-            return Result(Ending.NEVER)
         for bound in range(1, depth + 1):
+            if bound == PROVED_FROM and self.is_never():
+                return Result(Ending.NEVER)
             if self.over():
                 return self.result(Ending.TIME, bound - 1)
             try:
@@ -88,7 +88,14 @@ class Search:
                 return self.result(stop.ending, bound - 1)
             if script is not None:
                 return self.result(Ending.FOUND, bound - 1, script)
+        if depth < PROVED_FROM and self.is_never():
+            return Result(Ending.NEVER)
         return self.result(Ending.DEPTH, depth)
+
+    def is_never(self) -> bool:
+        """Whether no script of any length leads to the goal."""
+        merged = Closure(self.problem).begin().collect(self.over)
+        return merged.whole and GOAL not in merged.facts
 
     def result(self, ending: Ending, excluded: int, script: Tuple[Line, ...] = ()) -> Result:
         """How the search ended."""
