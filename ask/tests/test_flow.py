@@ -80,12 +80,12 @@ CLOSED, OPEN = "0755", "0777"
 # worlds with one way each: the mode of /, the objects and processes, FROM, TO, and a call of the script that only this way has
 WAYS = {
     "another process writes what the next one reads":
-        (CLOSED, 'file /a 0600 10 10 low "secret"\nfile /b 0666 0 0 low ""\nproc low 10 10 - "="\nproc low 11 11 - "="\n', "/a",
+        (CLOSED, 'file /a 0640 5 10 low "secret"\nfile /b 0666 0 0 low ""\nproc low 10 10 - "="\nproc low 11 11 - "="\n', "/a",
          "2@low", "write 1"),
     "a new file":
-        (OPEN, 'file /a 0600 10 10 low "secret"\nproc low 10 10 - "="\nproc low 11 11 - "="\n', "/a", "2@low", "wcx 0666"),
+        (OPEN, 'file /a 0640 5 10 low "secret"\nproc low 10 10 - "="\nproc low 11 11 - "="\n', "/a", "2@low", "wcx 0666"),
     "a FIFO":
-        (CLOSED, 'dir /d 0755 0 0 low\nfile /d/a 0600 10 10 low "secret"\nfifo /d/p 0666 0 0 low\nproc low 10 10 - "="\n'
+        (CLOSED, 'dir /d 0755 0 0 low\nfile /d/a 0640 5 10 low "secret"\nfifo /d/p 0666 0 0 low\nproc low 10 10 - "="\n'
          'proc low 11 11 - "="\n', "/d/a", "2@low", "open /d/p r"),
     "an object gets another label":
         (OPEN, 'file /a 0644 10 10 high "secret"\nproc low 11 11 - "="\nproc high 10 10 - "cap_mac_downgrade=ep"\n', "/a", "1@low",
@@ -93,9 +93,9 @@ WAYS = {
     "a process gets another label":
         (CLOSED, 'file /a 0644 0 0 high "secret"\nfile /b 0666 0 0 low ""\nproc low 11 11 - "="\n'
          'proc high 10 10 - "cap_mac_relabel_subj=ep"\n', "/a", "/b", "mac_set_proc low"),
-    "a set-user-ID program, and back":
+    "a set-user-ID program, and a file that was opened before":
         (CLOSED, 'file /a 0600 5 5 low "secret"\nfile /b 0600 10 10 low ""\nfile /x 4755 5 5 low "x"\nproc low 10 10 - "="\n', "/a",
-         "/b", "setuid 10"),
+         "/b", "exec /x"),
     "a permitted capability":
         (OPEN, 'file /a 0600 5 5 low "secret"\nproc low 10 10 - "cap_dac_read_search=p"\n', "/a", "1@low", "cap_set_proc"),
 }
