@@ -1,0 +1,94 @@
+"""Compares `labask flow` with an exhaustive search of random worlds by scripts of up to four calls (see the package `exhaustive`).
+
+A few worlds are searched by default, and 200 where the variable LABASK_EXHAUSTIVE is set, on two processors.
+"""
+import concurrent.futures
+import functools
+import os
+from typing import Any, Dict, List
+
+import pytest
+
+from exhaustive.calls import Call, calls_of
+from exhaustive.copies import Job
+from exhaustive.flows import gives, lines_of, missed_by_flow, pairs_of
+from exhaustive.random_worlds import random_world
+from exhaustive.search import Node, Search, done
+from labask.playing import Player
+from labask.signatures import CALLS
+
+WORLDS = 200
+SHORT = 8
+PROCESSORS = 2
+SMALL = (10, 17, 21)  # seeds of small worlds, which are searched without pruning too
+TRIED = ("chmod", "chown", "mac_set_file", "cap_set_file", "exec", "chdir", "unlink", "rmdir", "open", "rename", "link", "mkdir", "setuid",
+         "setgid", "mac_set_proc", "cap_set_proc", "fork", "mac_set_fd", "cap_set_fd", "write")
+# the other calls: each with arguments by which it is done or refused at the start of a world
+ANSWERING = ("stat /", "readdir /", "mac_get_file /", "cap_get_file /", "fstat 0", "mac_get_fd 0", "cap_get_fd 0", "lseek 0 set 0",
+             "read 0 9", "getpid", "getppid", "getids", "cap_get_proc", "mac_get_proc", "wait", "aud_write x", "aud_switch off",
+             "close 0", "dup 0", "umask 0000", "pipe")
+
+
+def missed(seed: int, program: str) -> List[Dict[str, Any]]:
+    """The flows of a world that `labask flow` misses."""
+    return list(missed_by_flow(seed, program))
+
+
+def test_flow_misses_no_flow_of_random_worlds(program: str) -> None:
+    """`flow` finds a script as short for each flow that the exhaustive search finds."""
+    count = WORLDS if os.environ.get("LABASK_EXHAUSTIVE") else SHORT
+    with concurrent.futures.ProcessPoolExecutor(PROCESSORS) as pool:
+        faults = [fault for found in pool.map(functools.partial(missed, program=program), range(count)) for fault in found]
+    assert not faults, "\n".join(f"seed {each['seed']}: {each['from']} to {each['to']} by {each['script']}; flow: {each['flow']}"
+                                 for each in faults)
+
+
+@pytest.mark.parametrize("seed", range(SHORT))
+def test_the_scripts_give_the_flows_in_the_world_itself(seed: int, player: Player) -> None:
+    """What is found in copies of a world is so in the world."""
+    world, found = pairs_of(seed, player.program[0])
+    for (source, goal), script in found.items():
+        assert gives(world, lines_of(world, script), source, goal, player), lines_of(world, script)
+
+
+@pytest.mark.parametrize("seed", SMALL)
+def test_pruning_loses_no_flow(seed: int, program: str) -> None:
+    """A search that asks each call after each script finds the same flows by scripts as short."""
+    found = []
+    for pruned in (True, False):
+        search = Search(random_world(seed), program, pruned)
+        search.run()
+        found.append({pair: len(script) for pair, script in search.found.items()})
+    assert found[0] == found[1]
+
+
+def test_each_call_of_the_profile_is_tried_or_answers() -> None:
+    """The calls that are tried, those that only answer, and those that are left out are all of the profile."""
+    left_out = {"mkfifo", "kill", "exit"}
+    assert {*TRIED, *(each.split()[0] for each in ANSWERING), *left_out} == set(CALLS)
+
+
+def test_the_calls_that_are_tried_are_tried() -> None:
+    """Each call that is said to be tried is among those of some state."""
+    worlds = [random_world(seed) for seed in range(WORLDS)]
+    names = set()
+    for world in worlds:
+        search = Search(world, "")
+        state = search.copies.first.with_actor(0, descriptors=(search.files[0],))
+        names |= {call.name for actor in range(len(world.processes)) for call in calls_of(actor, state, search.arguments)}
+    assert names == set(TRIED)
+
+
+@pytest.mark.parametrize("seed", SMALL)
+def test_the_other_calls_leave_the_state_as_it_was(seed: int, program: str) -> None:
+    """After a call that is not tried, objects and processes answer as before."""
+    search = Search(random_world(seed), program)
+    root = Node((), search.copies.first)
+    search.tell([root])
+    asked = [Call(actor, name, tuple(words[:1]) if words[:1] == ["/"] else (), " ".join(words if words[:1] != ["/"] else ()))
+             for actor in range(len(root.state.labels)) for name, *words in map(str.split, ANSWERING)]
+    job = Job((), asked)
+    search.copies.play([job])
+    after = [Node((call,), root.state) for call in asked if done(job.replies[call])]
+    search.tell(after)
+    assert after and all(node.facts == root.facts for node in after)
