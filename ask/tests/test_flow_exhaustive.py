@@ -1,6 +1,6 @@
 """Compares `labask flow` with an exhaustive search of random worlds by scripts of up to four calls (see the package `exhaustive`).
 
-A few worlds are searched by default, and 200 where the variable LABASK_EXHAUSTIVE is set, on two processors.
+A few small worlds are searched by default, and 200 worlds where the variable LABASK_EXHAUSTIVE is set, on two processors.
 """
 import concurrent.futures
 import functools
@@ -11,14 +11,13 @@ import pytest
 
 from exhaustive.calls import Call, calls_of
 from exhaustive.copies import Job
-from exhaustive.flows import gives, lines_of, missed_by_flow, pairs_of
+from exhaustive.flows import missed_by_flow
 from exhaustive.random_worlds import random_world
 from exhaustive.search import Node, Search, done
-from labask.playing import Player
 from labask.signatures import CALLS
 
 WORLDS = 200
-SHORT = 8
+SHORT = (0, 1, 4, 5, 7, 9, 10)  # seeds of worlds that are searched within about a second
 PROCESSORS = 2
 SMALL = (10, 17, 21)  # seeds of small worlds, which are searched without pruning too
 TRIED = ("chmod", "chown", "mac_set_file", "cap_set_file", "exec", "chdir", "unlink", "rmdir", "open", "rename", "link", "mkdir", "setuid",
@@ -35,20 +34,12 @@ def missed(seed: int, program: str) -> List[Dict[str, Any]]:
 
 
 def test_flow_misses_no_flow_of_random_worlds(program: str) -> None:
-    """`flow` finds a script as short for each flow that the exhaustive search finds."""
-    count = WORLDS if os.environ.get("LABASK_EXHAUSTIVE") else SHORT
+    """`flow` finds a script as short for each flow that the exhaustive search finds, and that is so in the world itself."""
+    seeds = range(WORLDS) if os.environ.get("LABASK_EXHAUSTIVE") else SHORT
     with concurrent.futures.ProcessPoolExecutor(PROCESSORS) as pool:
-        faults = [fault for found in pool.map(functools.partial(missed, program=program), range(count)) for fault in found]
+        faults = [fault for found in pool.map(functools.partial(missed, program=program), seeds) for fault in found]
     assert not faults, "\n".join(f"seed {each['seed']}: {each['from']} to {each['to']} by {each['script']}; flow: {each['flow']}"
                                  for each in faults)
-
-
-@pytest.mark.parametrize("seed", range(SHORT))
-def test_the_scripts_give_the_flows_in_the_world_itself(seed: int, player: Player) -> None:
-    """What is found in copies of a world is so in the world."""
-    world, found = pairs_of(seed, player.program[0])
-    for (source, goal), script in found.items():
-        assert gives(world, lines_of(world, script), source, goal, player), lines_of(world, script)
 
 
 @pytest.mark.parametrize("seed", SMALL)

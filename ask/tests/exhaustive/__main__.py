@@ -8,23 +8,19 @@ import pathlib
 import sys
 import time
 
-from exhaustive.flows import as_json, gives, lines_of, pairs_of
+from exhaustive.flows import as_json, played_flows
 from labask.playing import Player
 
 
 def main() -> None:
     """Searches the worlds of the seeds from FIRST to LAST, and plays what is found in the worlds themselves."""
     first, last, path = int(sys.argv[1]), int(sys.argv[2]), pathlib.Path(sys.argv[3])
-    program, pairs = os.environ["LABSYS"], []
+    player, pairs = Player([os.environ["LABSYS"]]), []
     for seed in range(first, last + 1):
         start = time.process_time()
-        world, found = pairs_of(seed, program)
+        found = [as_json(seed, *flow) for flow in played_flows(seed, player)]
         print(f"seed {seed}: {len(found)} flows, {time.process_time() - start:.1f} s of this process", flush=True)
-        for (source, goal), script in sorted(found.items()):
-            lines = lines_of(world, script)
-            if not gives(world, lines, source, goal, Player([program])):
-                raise AssertionError(f"seed {seed}: the script does not give the flow in the world itself: {lines}")
-            pairs.append(as_json(seed, world, source, goal, lines))
+        pairs += found
         beside = path.with_suffix(".new")
         beside.write_text(json.dumps(pairs, indent=1), "utf-8")
         beside.replace(path)

@@ -48,16 +48,15 @@ class Arguments:
         return cls(tuple(users), tuple(groups), world.labels, tuple(each.path for each in world.objects[1:]))
 
 
-def paths_of(state: State, actor: int) -> List[Tuple[str, int]]:
-    """The paths of all objects but the root, and below the current directory of a process the relative ones besides."""
-    directory = state.directories[actor]
-    return state.tree.paths + (list(state.tree.below(directory, "")) if directory != ROOT else [])
+def paths_from(directory: int, tree: Tree) -> List[Tuple[str, int]]:
+    """The paths of all objects but the root, and the relative ones besides below a current directory that is not the root."""
+    return tree.paths + (list(tree.below(directory, "")) if directory != ROOT else [])
 
 
 def free_paths(state: State, actor: int, arguments: Arguments) -> List[str]:
     """The paths of a new name in each directory, and those of the world's objects that are free by now."""
     tree, directory = state.tree, state.directories[actor]
-    free = [f"{path}/{NEW_NAME}" for path, number in [("", ROOT), *paths_of(state, actor)] if tree.kinds[number] == "dir"]
+    free = [f"{path}/{NEW_NAME}" for path, number in [("", ROOT), *paths_from(directory, tree)] if tree.kinds[number] == "dir"]
     free += [NEW_NAME] if directory != ROOT else []
     free += [path for path in arguments.old_paths]
     walks = [(path, tree.walk(directory, path)) for path in dict.fromkeys(free)]
@@ -122,7 +121,7 @@ def on_itself(actor: int, state: State, arguments: Arguments, sets: Sets) -> Ite
 def calls_of(actor: int, state: State, arguments: Arguments) -> List[Call]:
     """The calls of a process that may change what a check reads."""
     sets = read_sets(state.caps[actor])
-    paths, free = paths_of(state, actor), free_paths(state, actor, arguments)
+    paths, free = paths_from(state.directories[actor], state.tree), free_paths(state, actor, arguments)
     found = [call for path, number in [("/", ROOT), *paths]
              for call in on_object(actor, path, state.tree.kinds[number], arguments, sets)
              if path != "/" or call.name in ("chmod", "chown")]

@@ -15,7 +15,7 @@ OBSERVER_CAPS = "cap_dac_read_search,cap_mac_read=ep"
 ROOTS = 2  # names that lead to the root of a copy
 IN_A_GROUP = 32  # copies below one directory
 MOST_COPIES = 900  # so that no label has more than 4,095 processes, with the children that are made
-MOST_CHANGING = 12  # calls that are asked in one copy and may change it
+MOST_CHANGING = 24  # calls that are asked in one copy and may change it
 HARMLESS = ("stat", "readdir", "cap_get_file", "mac_get_file", "fstat", "cap_get_fd", "mac_get_fd", "cap_get_proc", "mac_get_proc",
             "getids", "getpid", "getppid")
 

@@ -48,8 +48,8 @@ def gives(world: RandomWorld, lines: Sequence[str], source: int, goal: Goal, pla
 def found_by_flow(world: RandomWorld, source: int, goal: Goal, player: Player) -> List[str]:
     """The calls that `labask flow` finds, none where it finds no script."""
     name = name_of(world, goal)
-    flow = Flow(read_world(world.head.encode()), player, world.objects[source].path.encode(), name if goal[0] == "process" else name.encode())
-    found = flow.find(DEPTH)
+    asked = name if goal[0] == "process" else name.encode()
+    found = Flow(read_world(world.head.encode()), player, world.objects[source].path.encode(), asked).find(DEPTH)
     return [call.text for call in found.calls] if found else []
 
 
@@ -61,20 +61,25 @@ def pairs_of(seed: int, program: str) -> Tuple[RandomWorld, Dict[Tuple[int, Goal
     return world, search.found
 
 
+def played_flows(seed: int, player: Player) -> Iterator[Tuple[RandomWorld, int, Goal, List[str]]]:
+    """The flows of a random world, each with a shortest script that was played in the world itself."""
+    world, found = pairs_of(seed, player.program[0])
+    for (source, goal), script in sorted(found.items()):
+        lines = lines_of(world, script)
+        if not gives(world, lines, source, goal, player):
+            raise AssertionError(f"seed {seed}: the script does not give the flow in the world itself: {lines}")
+        yield world, source, goal, lines
+
+
 def as_json(seed: int, world: RandomWorld, source: int, goal: Goal, lines: Sequence[str]) -> Dict[str, Any]:
     """A pair with its script, as JSON has it."""
     return {"seed": seed, "world": world.head, "from": world.objects[source].path, "to": name_of(world, goal), "script": list(lines)}
 
 
 def missed_by_flow(seed: int, program: str) -> Iterator[Dict[str, Any]]:
-    """The flows of a random world for which `labask flow` finds no script as short, after they were played in the world."""
-    world, found = pairs_of(seed, program)
+    """The flows of a random world for which `labask flow` finds no script as short."""
     player = Player([program])
-    for (source, goal), script in sorted(found.items()):
-        lines = lines_of(world, script)
+    for world, source, goal, lines in played_flows(seed, player):
         other = found_by_flow(world, source, goal, player)
-        if 0 < len(other) <= len(lines):
-            continue
-        if not gives(world, lines, source, goal, player):
-            raise AssertionError(f"seed {seed}: the script does not give the flow in the world itself: {lines}")
-        yield {**as_json(seed, world, source, goal, lines), "flow": other}
+        if not 0 < len(other) <= len(lines):
+            yield {**as_json(seed, world, source, goal, lines), "flow": other}

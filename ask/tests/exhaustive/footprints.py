@@ -7,7 +7,7 @@ here, and may be too much: then it is asked once more than it has to be. No rule
 from typing import Callable, FrozenSet, Iterator, List, Optional, Sequence, Tuple
 
 from exhaustive.calls import Call, descriptor_of, walks_of
-from exhaustive.names import ROOT, State, Walk
+from exhaustive.names import State, Walk
 
 Cell = Tuple[object, ...]
 Cells = FrozenSet[Cell]
@@ -155,6 +155,14 @@ def entry_writes(call: Call, state: State, walks: Sequence[Walk]) -> Iterator[Ce
 
 def refusal_cells(call: Call, reply: bytes, state: State, roots: int) -> Cells:
     """What has to change before a refused call gets another reply; `roots` names lead to the world's root."""
+    key = (call, reply, state.directories[call.actor], state.descriptors[call.actor])
+    if key not in state.tree.cells:
+        state.tree.cells[key] = refusal_cells_anew(call, reply, state, roots)
+    return state.tree.cells[key]
+
+
+def refusal_cells_anew(call: Call, reply: bytes, state: State, roots: int) -> Cells:
+    """As `refusal_cells`, for a reply that was not met before."""
     words = reply.decode("latin-1").split(" ")
     walks = walks_of(call, state)
     cells: List[Cell] = [*start_cells(call), ("lives", call.actor)]

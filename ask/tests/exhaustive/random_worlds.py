@@ -97,7 +97,8 @@ def capability_text(draw: random.Random, forms: Tuple[str, ...]) -> str:
 
 def random_objects(draw: random.Random, levels: List[str], labels: Tuple[str, ...], count: int) -> List[Thing]:
     """The root and the objects below it, each with a label that dominates that of its directory."""
-    objects = [Thing("dir", "/", draw.choice((0o755, 0o755, 0o777, 0o711, 0o775)), draw.choice((0, *USERS)), draw.choice(GROUPS), labels[0])]
+    mode, owner, group = draw.choice((0o755, 0o755, 0o777, 0o711, 0o775)), draw.choice((0, *USERS)), draw.choice(GROUPS)
+    objects = [Thing("dir", "/", mode, owner, group, labels[0])]
     places = [("", labels[0])]
     for number in range(1, count):
         parent, above = draw.choice(places)

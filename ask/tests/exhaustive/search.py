@@ -2,10 +2,10 @@
 from dataclasses import dataclass, field, replace
 from typing import Callable, Dict, FrozenSet, Iterator, List, NamedTuple, Optional, Sequence, Set, Tuple
 
-from exhaustive.calls import OBSERVER, Arguments, Call, after, calls_of, entry_changes, fits, paths_of, walks_of
+from exhaustive.calls import OBSERVER, Arguments, Call, after, calls_of, entry_changes, fits, paths_from, walks_of
 from exhaustive.copies import ROOTS, Copies, Job
 from exhaustive.footprints import Cells, effect_reads, reads, refusal_cells, writes
-from exhaustive.names import ROOT, State, names_of
+from exhaustive.names import ROOT, State, Tree, names_of
 from exhaustive.random_worlds import RandomWorld
 
 DEPTH = 4
@@ -176,7 +176,7 @@ class Search:
         self.seen.add(key)
         return len(self.seen) > before
 
-    def inherit(self, node: Node, child: Node, moved: Set[Pair]) -> None:
+    def inherit(self, node: Node, child: Node, moved: FrozenSet[Pair]) -> None:
         """Gives a child the answers of its parent that do not depend on what its last call has changed."""
         changed = writes(child.script[-1], node.state)
         tried = {**self.calls(child.state), **self.moves(child.state, moved)}
@@ -211,26 +211,24 @@ class Search:
         needs = {node: self.needed(node, still) for node in level}
         self.ask_unasked(level, lambda node, call: self.helps(node, call, needs[node], still))
 
-    def ends(self, node: Node, call: Call, read: Set[Pair], moved: Set[Pair]) -> bool:
+    def ends(self, node: Node, call: Call, read: FrozenSet[Pair], moved: FrozenSet[Pair]) -> bool:
         """Whether a call would end a flow that is not known yet."""
         if call.name == "open" and call.rest == "r":
             found = walks_of(call, node.state)[0].found
             return found is not None and (found, node.state.parents[call.actor]) in read
         return call in self.moves(node.state, moved)
 
-    def needed(self, node: Node, moved: Set[Pair]) -> Cells:
+    def needed(self, node: Node, moved: FrozenSet[Pair]) -> Cells:
         """What the refusals of the moves that would end a flow depend on."""
         return frozenset().union(*(node.table[call].depends for call in self.moves(node.state, moved)))
 
-    def helps(self, node: Node, call: Call, needed: Cells, moved: Set[Pair]) -> bool:
+    def helps(self, node: Node, call: Call, needed: Cells, moved: FrozenSet[Pair]) -> bool:
         """Whether a call may let a move be done that ends a flow."""
         if not self.pruned or not moved:
             return bool(moved)
         if any(map(only_opens, node.script)) and call.name not in ON_DESCRIPTOR:
             return False
-        if not needed.isdisjoint(writes(call, node.state)):
-            return True
-        return call.name in ON_NAMES and bool(self.moves(after(call, node.state), moved).keys() - self.moves(node.state, moved).keys())
+        return call.name in ON_NAMES or not needed.isdisjoint(writes(call, node.state))
 
     def last_moves(self, level: Sequence[Node]) -> None:
         """Looks for the moves after three other calls."""
@@ -239,7 +237,7 @@ class Search:
         self.counts.append(len(asked))
         self.ask(asked)
 
-    def after_third(self, node: Node, moved: Set[Pair]) -> Iterator[Tuple[Node, List[Call]]]:
+    def after_third(self, node: Node, moved: FrozenSet[Pair]) -> Iterator[Tuple[Node, List[Call]]]:
         """The nodes with one call more at which moves are asked, and these moves."""
         needed, touched = self.needed(node, moved), next_touches(node)
         for call, answer in node.done_calls() if moved else ():
@@ -250,7 +248,7 @@ class Search:
             if asked and self.unseen_third(node, call, answer):
                 yield node.child(call), asked
 
-    def moves_after(self, node: Node, call: Call, changed: Cells, moved: Set[Pair]) -> List[Call]:
+    def moves_after(self, node: Node, call: Call, changed: Cells, moved: FrozenSet[Pair]) -> List[Call]:
         """The moves that may be done after a call and not before it."""
         current, state = self.moves(node.state, moved), after(call, node.state)
         if not self.pruned:
@@ -302,35 +300,39 @@ class Search:
                           Call(actor, "open", (paths[goal],), "w"), Call(actor, "write", (), f'1 "{self.world.objects[source].content}"'))
                 self.add(source, ("object", goal), script)
 
-    def pending_moves(self) -> Set[Pair]:
+    def pending_moves(self) -> FrozenSet[Pair]:
         """The files and other objects for which no flow is known."""
-        return {(source, goal) for source in self.files for goal in self.goals
-                if source != goal and (source, ("object", goal)) not in self.found}
+        return frozenset((source, goal) for source in self.files for goal in self.goals
+                         if source != goal and (source, ("object", goal)) not in self.found)
 
-    def pending_reads(self) -> Set[Pair]:
+    def pending_reads(self) -> FrozenSet[Pair]:
         """The files and processes for which no flow is known."""
-        return {(source, goal) for source in self.files for goal in range(len(self.world.processes))
-                if (source, ("process", goal)) not in self.found}
+        return frozenset((source, goal) for source in self.files for goal in range(len(self.world.processes))
+                         if (source, ("process", goal)) not in self.found)
 
     # ---- moves that would end a flow
 
-    def moves(self, state: State, moved: Set[Pair]) -> Dict[Call, None]:
+    def moves(self, state: State, moved: FrozenSet[Pair]) -> Dict[Call, None]:
         """The moves in a state that would end a flow, were they done."""
-        key = (state.tree, state.directories, state.overwritten, frozenset(moved))
+        key = (state.tree, state.directories, state.overwritten, moved)
         if key not in self.moves_memo:
-            self.moves_memo[key] = dict.fromkeys(call for actor in range(len(state.labels)) for call in self.moves_of(actor, state, moved))
+            self.moves_memo[key] = {Call(actor, name, (path, target)): None for actor, directory in enumerate(state.directories)
+                                    for name, path, target in self.moves_from(directory, state, moved)}
         return self.moves_memo[key]
 
-    def moves_of(self, actor: int, state: State, moved: Set[Pair]) -> Iterator[Call]:
-        """The moves of a process that would end a flow."""
-        for source, goal in sorted(moved):
+    def moves_from(self, directory: int, state: State, moved: FrozenSet[Pair]) -> Iterator[Tuple[str, str, str]]:
+        """The moves by a process with a current directory that would end a flow: the call and its two paths."""
+        paths: Dict[int, List[str]] = {}
+        for path, number in paths_from(directory, state.tree):
+            paths.setdefault(number, []).append(path)
+        for source, goal in moved:
             if source not in state.overwritten:
-                for target, behind in self.targets(goal, state, actor):
-                    yield from moves_to(actor, source, target, behind, state)
+                for target, behind in self.targets(goal, state, directory):
+                    yield from moves_to(source, target, behind, directory, state.tree, paths)
 
-    def targets(self, goal: int, state: State, actor: int) -> Iterator[Tuple[str, str]]:
+    def targets(self, goal: int, state: State, directory: int) -> Iterator[Tuple[str, str]]:
         """The second paths of moves that change what is at the path of an object, each with the names behind it."""
-        names, directory = names_of(self.world.objects[goal].path), state.directories[actor]
+        names = names_of(self.world.objects[goal].path)
         for count in range(1, len(names) + 1):
             path, behind = "/" + "/".join(names[:count]), "/".join(names[count:])
             holder = state.tree.walk(ROOT, path).holder
@@ -342,16 +344,16 @@ class Search:
                 yield from ((prefix + names[count - 1], behind) for prefix, number in below if number == holder)
 
 
-def moves_to(actor: int, source: int, target: str, behind: str, state: State) -> Iterator[Call]:
+def moves_to(source: int, target: str, behind: str, directory: int, tree: Tree,
+             paths: Dict[int, List[str]]) -> Iterator[Tuple[str, str, str]]:
     """The moves to a path after which a file is there, or where names are behind it, at these names below it."""
-    tree = state.tree
-    walk = tree.walk(state.directories[actor], target)
-    for path, number in paths_of(state, actor):
-        if (tree.walk(number, behind).found if behind else number) == source:
-            if fits(tree, number, walk):
-                yield Call(actor, "rename", (path, target))
-            if walk.found is None and not behind:
-                yield Call(actor, "link", (path, target))
+    walk = tree.walk(directory, target)
+    numbers = [source] if not behind else [each for each in paths if tree.kinds[each] == "dir" and tree.walk(each, behind).found == source]
+    for number in numbers:
+        if fits(tree, number, walk):
+            yield from (("rename", path, target) for path in paths.get(number, ()))
+        if walk.found is None and not behind:
+            yield from (("link", path, target) for path in paths.get(number, ()))
 
 
 def next_touches(node: Node) -> Optional[Cells]:
