@@ -86,18 +86,22 @@ class Search:
         self.counts: List[int] = []
 
     def run(self) -> None:
-        """Searches."""
+        """Searches: the flows that are known at any time have no longer scripts than those that are looked for then."""
         root = Node((), self.copies.first)
         self.tell([root])
         self.seen.add(root.key)
         root.unasked = [call for call in self.calls(root.state) if call.name != "fork"]
         self.ask_unasked([root], lambda node, call: True)
-        self.copy_flows(root)
         first = self.next_level([root], 1)
         self.ask_unasked(first, lambda node, call: True)
         second = self.next_level(first, 2)
-        self.ask_second(second)
-        self.last_moves(second)
+        read, moved = self.pending_reads(), self.pending_moves()
+        self.ask_unasked(second, lambda node, call: self.ends(node, call, read, moved))
+        self.copy_flows(root)
+        still = self.pending_moves()
+        needs = {node: self.needed(node, still) for node in second}
+        self.ask_unasked(second, lambda node, call: self.helps(node, call, needs[node], still))
+        self.last_moves(second, still)
 
     # ---- what is tried
 
@@ -203,14 +207,6 @@ class Search:
                 node.table[call] = Answer(reply, depends, node)
             self.note(node, [call for call in calls if done(job.replies[call])])
 
-    def ask_second(self, level: Sequence[Node]) -> None:
-        """Asks after two calls: what may end a flow, and then what may let a move be done that ends one."""
-        read, moved = self.pending_reads(), self.pending_moves()
-        self.ask_unasked(level, lambda node, call: self.ends(node, call, read, moved))
-        still = self.pending_moves()
-        needs = {node: self.needed(node, still) for node in level}
-        self.ask_unasked(level, lambda node, call: self.helps(node, call, needs[node], still))
-
     def ends(self, node: Node, call: Call, read: FrozenSet[Pair], moved: FrozenSet[Pair]) -> bool:
         """Whether a call would end a flow that is not known yet."""
         if call.name == "open" and call.rest == "r":
@@ -230,9 +226,8 @@ class Search:
             return False
         return call.name in ON_NAMES or not needed.isdisjoint(writes(call, node.state))
 
-    def last_moves(self, level: Sequence[Node]) -> None:
+    def last_moves(self, level: Sequence[Node], moved: FrozenSet[Pair]) -> None:
         """Looks for the moves after three other calls."""
-        moved = self.pending_moves()
         asked = [each for node in level for each in self.after_third(node, moved)]
         self.counts.append(len(asked))
         self.ask(asked)
