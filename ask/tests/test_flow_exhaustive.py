@@ -51,6 +51,11 @@ WAYS = {
         (Thing("dir", "/d", 0o710, 30, 10, "lo"), Thing("dir", "/d/e", 0o755, 30, 30, "lo"),
          Thing("file", "/d/e/f", 0o600, 20, 20, "lo", "bytes of f"), Thing("file", "/x", 0o6755, 20, 20, "lo", "bytes of x")),
         (Actor("lo", 10, 10, (), "="),)), "/d/e/f", "1@lo", ["chdir", "exec", "open", "read"]),
+    "a child executes a program and its parent does not": (made_world(
+        (Thing("dir", "/d", 0o700, 10, 10, "lo"), Thing("file", "/d/f", 0o600, 10, 10, "lo", "bytes of f"),
+         Thing("dir", "/e", 0o700, 20, 20, "lo"), Thing("file", "/e/g", 0o600, 20, 20, "hi", "bytes of g"),
+         Thing("file", "/x", 0o4755, 20, 20, "lo", "bytes of x")),
+        (Actor("lo", 10, 10, (), "cap_mac_write=ep"),)), "/d/f", "/e/g", ["fork", "exec", "chmod", "rename"]),
 }
 
 
