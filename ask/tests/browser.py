@@ -1,191 +1,112 @@
-"""A browser without a window, driven through its DevTools protocol: headless Chromium, with a pipe to it and a pipe from it."""
+"""A browser without a window for tests: Chromium, driven by Selenium."""
 import base64
-import fcntl
-import json
 import os
 import pathlib
-import select
 import shutil
-import subprocess
-import sys
-import tempfile
-import time
-from typing import Any, Dict, List, Optional
+from typing import Any, Dict, Iterator, List
 
-NAMES = ("chromium", "chromium-browser", "google-chrome-stable", "google-chrome")
-OPTIONS = ("--headless=new", "--remote-debugging-pipe", "--disable-dev-shm-usage", "--disable-gpu", "--no-first-run",
-           "--disable-background-networking", "--disable-component-update", "--hide-scrollbars", "--force-color-profile=srgb")
-PATIENCE = 120
-# the browser reads its commands from the descriptor 3 and writes to the descriptor 4
-STARTER = "import os, sys; os.dup2(int(sys.argv[1]), 3); os.dup2(int(sys.argv[2]), 4); os.execv(sys.argv[3], sys.argv[3:])"
-KEYS = {"Tab": 9, "Enter": 13, " ": 32, "ArrowUp": 38, "ArrowDown": 40, "End": 35, "Home": 36}
+import pytest
 
+selenium = pytest.importorskip("selenium", reason="there is no selenium, which Debian has in its package python3-selenium")
+from selenium import webdriver  # noqa: E402  after the line that skips the tests where it is missing
+from selenium.webdriver.chrome.options import Options  # noqa: E402
+from selenium.webdriver.chrome.service import Service  # noqa: E402
+from selenium.webdriver.common.action_chains import ActionChains  # noqa: E402
+from selenium.webdriver.common.keys import Keys  # noqa: E402
+from selenium.webdriver.common.print_page_options import PrintOptions  # noqa: E402
 
-class Unavailable(Exception):
-    """There is no browser."""
-
-
-class BrowserFault(Exception):
-    """The browser answered with an error, or not at all."""
-
-
-def find_browser() -> Optional[str]:
-    """The path of a browser, or None."""
-    return next(filter(None, map(shutil.which, NAMES)), None)
-
-
-def need_browser() -> str:
-    """The path of a browser; raises `Unavailable` where there is none."""
-    found = find_browser()
-    if found is None:
-        raise Unavailable("there is no Chromium, which Debian has in its package chromium")
-    return found
-
-
-class Browser:
-    """A running browser. It ends with its context."""
-
-    def __init__(self) -> None:
-        self.count = 0
-        self.rest = b""
-        self.events: List[Dict[str, Any]] = []
-
-    def __enter__(self) -> "Browser":
-        program = need_browser()
-        self.folder = tempfile.TemporaryDirectory(prefix="labask-browser-", ignore_cleanup_errors=True)
-        theirs_in, self.out = os.pipe()
-        self.into, theirs_out = os.pipe()
-        given, taken = (fcntl.fcntl(each, fcntl.F_DUPFD, 5) for each in (theirs_in, theirs_out))
-        words = [program, *OPTIONS, f"--user-data-dir={self.folder.name}", *(["--no-sandbox"] if os.geteuid() == 0 else [])]
-        self.process = subprocess.Popen([sys.executable, "-c", STARTER, str(given), str(taken), *words], pass_fds=(given, taken),
-                                        stdin=subprocess.DEVNULL, stdout=subprocess.DEVNULL, stderr=subprocess.DEVNULL)
-        for each in (theirs_in, theirs_out, given, taken):
-            os.close(each)
-        return self
-
-    def __exit__(self, *fault: Any) -> None:
-        try:
-            self.send("Browser.close")
-            self.process.wait(10)
-        except (BrowserFault, OSError, subprocess.TimeoutExpired):
-            self.process.kill()
-            self.process.wait()
-        os.close(self.out)
-        os.close(self.into)
-        self.folder.cleanup()
-
-    def _message(self, end: float) -> Dict[str, Any]:
-        while b"\0" not in self.rest:
-            if not select.select([self.into], [], [], max(0.0, end - time.monotonic()))[0]:
-                raise BrowserFault("no answer")
-            piece = os.read(self.into, 1 << 20)
-            if not piece:
-                raise BrowserFault("the browser ended")
-            self.rest += piece
-        message, _, self.rest = self.rest.partition(b"\0")
-        return json.loads(message)
-
-    def send(self, method: str, session: Optional[str] = None, **parameters: Any) -> Dict[str, Any]:
-        """Sends a command, and gives its result; events that come before are kept."""
-        self.count += 1
-        command = {"id": self.count, "method": method, "params": parameters, **({"sessionId": session} if session else {})}
-        data = json.dumps(command).encode() + b"\0"
-        while data:
-            data = data[os.write(self.out, data):]
-        end = time.monotonic() + PATIENCE
-        while True:
-            message = self._message(end)
-            if message.get("id") == self.count:
-                if "error" in message:
-                    raise BrowserFault(f"{method}: {message['error']['message']}")
-                return message["result"]
-            self.events.append(message)
-
-    def wait_for(self, event: str, session: str) -> Dict[str, Any]:
-        """The first event of this name of a session, which is taken from those kept."""
-        end = time.monotonic() + PATIENCE
-        while True:
-            for index, message in enumerate(self.events):
-                if message.get("method") == event and message.get("sessionId") == session:
-                    return self.events.pop(index)["params"]
-            self.events.append(self._message(end))
-
-    def page(self, width: int = 1200, height: int = 900) -> "Page":
-        """A new page with a size in pixels."""
-        target = self.send("Target.createTarget", url="about:blank")["targetId"]
-        return Page(self, self.send("Target.attachToTarget", targetId=target, flatten=True)["sessionId"], target, width, height)
+PROGRAMS = {"chromium": "chromium", "chromedriver": "chromium-driver"}  # with the packages of Debian that have them
+OPTIONS = ("--headless=new", "--disable-dev-shm-usage", "--disable-gpu", "--no-first-run", "--disable-background-networking",
+           "--disable-component-update", "--hide-scrollbars", "--force-color-profile=srgb")
+KEYS = {"Tab": Keys.TAB, "Enter": Keys.ENTER, "ArrowUp": Keys.ARROW_UP, "ArrowDown": Keys.ARROW_DOWN, "Home": Keys.HOME,
+        "End": Keys.END}
+PATIENCE = 120  # seconds within which a page is loaded, or a script ends
 
 
 class Page:
-    """A page of a browser."""
+    """The page of a browser."""
 
-    def __init__(self, browser: Browser, session: str, target: str, width: int, height: int):
-        self.browser, self.session, self.target = browser, session, target
-        for domain in ("Page", "Runtime", "Log"):
-            self.send(f"{domain}.enable")
-        self.resize(width, height)
+    def __init__(self, driver: webdriver.Chrome):
+        self.driver = driver
 
-    def send(self, method: str, **parameters: Any) -> Dict[str, Any]:
-        """Sends a command for this page."""
-        return self.browser.send(method, self.session, **parameters)
+    def command(self, method: str, **parameters: Any) -> Dict[str, Any]:
+        """Gives a command of the browser's own, for what Selenium has no function."""
+        answer: Dict[str, Any] = self.driver.execute_cdp_cmd(method, parameters)
+        return answer
 
     def resize(self, width: int, height: int) -> None:
-        """Sets the size in pixels."""
-        self.send("Emulation.setDeviceMetricsOverride", width=width, height=height, deviceScaleFactor=1, mobile=False)
+        """Sets the size in pixels. A window itself would be at least 500 pixels wide."""
+        self.command("Emulation.setDeviceMetricsOverride", width=width, height=height, deviceScaleFactor=1, mobile=False)
 
     def open(self, path: pathlib.Path, fragment: str = "") -> None:
         """Opens a file anew, and waits until it is loaded."""
-        self.send("Page.navigate", url="about:blank")
-        self.browser.wait_for("Page.loadEventFired", self.session)
-        self.send("Page.navigate", url=path.resolve().as_uri() + fragment)
-        self.browser.wait_for("Page.loadEventFired", self.session)
+        self.driver.get("about:blank")
+        self.driver.get(path.resolve().as_uri() + fragment)
 
     def evaluate(self, expression: str) -> Any:
         """The value of an expression of JavaScript; a promise is awaited. A fault that is raised there is raised here."""
-        answer = self.send("Runtime.evaluate", expression=expression, returnByValue=True, awaitPromise=True)
-        if "exceptionDetails" in answer:
-            details = answer["exceptionDetails"]
-            raise BrowserFault(details.get("exception", {}).get("description", details["text"]))
-        return answer["result"].get("value")
+        return self.driver.execute_script(f"return {expression}")
 
     def media(self, kind: str = "", **features: str) -> None:
         """Emulates a medium, as `print`, and features of media, as prefers_color_scheme="dark"."""
         named = [{"name": name.replace("_", "-"), "value": value} for name, value in features.items()]
-        self.send("Emulation.setEmulatedMedia", media=kind, features=named)
+        self.command("Emulation.setEmulatedMedia", media=kind, features=named)
 
     def scripts(self, enabled: bool) -> None:
         """Turns the scripts of pages that are opened from now on on or off."""
-        self.send("Emulation.setScriptExecutionDisabled", value=not enabled)
+        self.command("Emulation.setScriptExecutionDisabled", value=not enabled)
 
     def press(self, key: str) -> None:
         """Presses and releases a key; a single character is typed."""
-        code = KEYS.get(key, ord(key[0].upper()))
-        typed = {"text": {"Enter": "\r"}.get(key, key)} if len(key) == 1 or key == "Enter" else {}
-        words = {"key": key, "windowsVirtualKeyCode": code, "code": key if len(key) > 1 else f"Key{key.upper()}"}
-        self.send("Input.dispatchKeyEvent", type="keyDown" if typed else "rawKeyDown", **words, **typed)
-        self.send("Input.dispatchKeyEvent", type="keyUp", **words)
+        ActionChains(self.driver).send_keys(KEYS.get(key, key)).perform()
 
     def picture(self, path: pathlib.Path, whole: bool = False) -> None:
         """Writes a picture of what is shown, or of the whole page, as PNG."""
-        data = self.send("Page.captureScreenshot", format="png", captureBeyondViewport=whole, **self._clip(whole))["data"]
-        path.write_bytes(base64.b64decode(data))
-
-    def _clip(self, whole: bool) -> Dict[str, Any]:
-        if not whole:
-            return {}
-        size = self.send("Page.getLayoutMetrics")["cssContentSize"]
-        return {"clip": {"x": 0, "y": 0, "width": size["width"], "height": size["height"], "scale": 1}}
+        size = self.command("Page.getLayoutMetrics")["cssContentSize"]
+        clip = {"clip": {"x": 0, "y": 0, "width": size["width"], "height": size["height"], "scale": 1}} if whole else {}
+        path.write_bytes(base64.b64decode(self.command("Page.captureScreenshot", captureBeyondViewport=whole, **clip)["data"]))
 
     def printed(self) -> bytes:
         """The page printed, as PDF."""
-        return base64.b64decode(self.send("Page.printToPDF", printBackground=False, preferCSSPageSize=True)["data"])
+        return base64.b64decode(self.driver.print_page(PrintOptions()))
 
     def faults(self) -> List[str]:
-        """What the console of the page was told as errors, by scripts or by the browser."""
-        found = []
-        for event in (event for event in self.browser.events if event.get("sessionId") == self.session):
-            if event["method"] == "Runtime.exceptionThrown":
-                found.append(event["params"]["exceptionDetails"]["text"])
-            elif event["method"] == "Log.entryAdded" and event["params"]["entry"]["level"] == "error":
-                found.append(event["params"]["entry"]["text"])
-        return found
+        """What the console was told as errors since it was last asked, by scripts or by the browser."""
+        return [entry["message"] for entry in self.driver.get_log("browser") if entry["level"] == "SEVERE"]
+
+
+def make_driver() -> webdriver.Chrome:
+    """Starts a browser."""
+    options = Options()
+    options.binary_location = shutil.which("chromium") or ""
+    for option in [*OPTIONS, *(["--no-sandbox"] if os.geteuid() == 0 else [])]:
+        options.add_argument(option)
+    options.set_capability("goog:loggingPrefs", {"browser": "ALL"})
+    driver = webdriver.Chrome(service=Service(shutil.which("chromedriver") or ""), options=options)
+    driver.set_page_load_timeout(PATIENCE)
+    driver.set_script_timeout(PATIENCE)
+    return driver
+
+
+@pytest.fixture(scope="session")
+def driver() -> Iterator[webdriver.Chrome]:
+    """A running browser; the tests that need it are skipped where a program is missing."""
+    for name, package in PROGRAMS.items():
+        if shutil.which(name) is None:
+            pytest.skip(f"there is no program {name}, which Debian has in its package {package}")
+    running = make_driver()
+    yield running
+    running.quit()
+
+
+@pytest.fixture
+def page(driver: webdriver.Chrome) -> Iterator[Page]:
+    """A page of 1,200 pixels in a tab of its own."""
+    first = driver.current_window_handle
+    driver.switch_to.new_window("tab")
+    made = Page(driver)
+    made.resize(1200, 900)
+    made.faults()
+    yield made
+    driver.close()
+    driver.switch_to.window(first)

@@ -1,39 +1,45 @@
 """What the tests of `page` share: the inputs of the repository, pages made of them, and what `labsys` says of them."""
+import hashlib
 import os
 import pathlib
 import subprocess
 import sys
-from typing import Iterator, List, Tuple
+from typing import Dict, List, Tuple, Union
+
+from run_cases import read_case
 
 TOP = pathlib.Path(__file__).resolve().parent.parent.parent
 ASK, EXAMPLES, CASES = TOP / "ask", TOP / "examples", TOP / "tests" / "cases"
-LABSYS = os.environ.get("LABSYS") or str(TOP / "labsys")
-for folder in (TOP / "tests", ASK):
-    sys.path.insert(0, str(folder))
 
-from run_cases import read_case  # noqa: E402  the reader of cases stands in the folder that was just named
-
-
-class Failure(Exception):
-    """What a test found to be wrong."""
-
-
-def require(holds: object, what: str) -> None:
-    """Raises a failure where something does not hold."""
-    if not holds:
-        raise Failure(what)
+HOSTILE = b"""# </script><script>window.hacked=1</script> <!-- \xe2\x80\xae \x01 &amp; caf\xc3\xa9 \xff
+world 2
+levels unc sec
+categories
+bound all
+dir / 0777 0 0 unc
+file "/<img src=x onerror=window.hacked=1>" 0644 0 0 unc "</td></table><script>window.hacked=1</script>"
+file "/\\x22&quot;'" 0644 0 0 sec "x"
+proc unc 0 0 - "cap_audit_write=ep"
+script
+# <b onmouseover=window.hacked=1>comment</b> ]]> --> */
+1@unc open "/<img src=x onerror=window.hacked=1>" r
+1@unc read 0 100
+1@unc stat "/\\x22&quot;'"
+1@unc aud_write "</script><script>window.hacked=1</script>"
+1@unc stat "/<svg onload=window.hacked=1>"
+"""
 
 
 def labsys(*words: str, given: bytes = b"") -> Tuple[int, bytes]:
     """The exit status of a command of `labsys`, and its output."""
-    done = subprocess.run([LABSYS, *words], input=given, stdout=subprocess.PIPE, stderr=subprocess.DEVNULL, check=False)
+    done = subprocess.run([os.environ["LABSYS"], *words], input=given, stdout=subprocess.PIPE, stderr=subprocess.DEVNULL, check=False)
     return done.returncode, done.stdout
 
 
-def labask(*words: str) -> Tuple[int, bytes, str]:
+def labask(*words: Union[str, bytes]) -> Tuple[int, bytes, str]:
     """The exit status of a command of `labask`, its output and its messages."""
     done = subprocess.run([sys.executable, str(ASK / "labask"), *words], stdin=subprocess.DEVNULL, stdout=subprocess.PIPE,
-                          stderr=subprocess.PIPE, env={**os.environ, "LABSYS": LABSYS}, check=False)
+                          stderr=subprocess.PIPE, check=False)
     return done.returncode, done.stdout, done.stderr.decode("utf-8", "replace")
 
 
@@ -41,7 +47,7 @@ def make_page(path: pathlib.Path, folder: pathlib.Path, *words: str) -> pathlib.
     """The page of a world."""
     page = folder / f"{path.stem}.html"
     status, _, messages = labask("page", str(path), "--output", str(page), *words)
-    require(status == 0, f"{path.name}: status {status}: {messages}")
+    assert status == 0, f"{path.name}: status {status}: {messages}"
     return page
 
 
@@ -54,7 +60,7 @@ def reply_lines(view: bytes) -> List[str]:
 def trail_of(text: bytes, folder: pathlib.Path) -> List[str]:
     """The lines of the trail of a world that is played."""
     trail = folder / "trail"
-    require(labsys("play", str(trail), given=text)[0] == 0, "the world is refused")
+    assert labsys("play", str(trail), given=text)[0] == 0, "the world is refused"
     return trail.read_text(encoding="ascii").split("\n")[:-1]
 
 
@@ -63,11 +69,28 @@ def examples() -> List[pathlib.Path]:
     return sorted(EXAMPLES.glob("*.txt"))
 
 
-def inputs() -> Iterator[Tuple[str, bytes]]:
-    """The inputs of the examples and of the cases, each once, with a name. Inputs that are trails are among them."""
-    found = {}
-    for path in examples():
-        found.setdefault(path.read_bytes(), path.name)
-    for path in sorted(CASES.rglob("*.case")):
-        found.setdefault(read_case(str(path))["input"], path.name)
-    return ((name, text) for text, name in found.items())
+def input_of(path: pathlib.Path) -> bytes:
+    """The input of an example or of a case."""
+    if path.suffix == ".txt":
+        return path.read_bytes()
+    text: bytes = read_case(str(path))["input"]
+    return text
+
+
+def inputs() -> List[pathlib.Path]:
+    """The examples and the cases, each input once. Inputs that are trails are among them."""
+    found: Dict[bytes, pathlib.Path] = {}
+    for path in [*examples(), *sorted(CASES.rglob("*.case"))]:
+        found.setdefault(hashlib.sha256(input_of(path)).digest(), path)
+    return list(found.values())
+
+
+def world_of_many(processes: int, labels: int) -> Tuple[bytes, List[str]]:
+    """A world with processes in turn of so many labels, each of which asks for its number; and their tags."""
+    levels = [f"l{number}" for number in range(16)]
+    names = [f"{level}:{'c' + str(number)}" for number in range(8) for level in levels][:labels]
+    tags = [f"{count // labels + 1}@{names[count % labels]}" for count in range(processes)]
+    lines = ["world 2", "levels " + " ".join(levels), "categories " + " ".join(f"c{number}" for number in range(8)), "bound all",
+             "dir / 0777 0 0 l0", *(f'proc {names[count % labels]} 1 1 - "="' for count in range(processes)), "script",
+             *(f"{tag} getpid" for tag in tags)]
+    return "\n".join(lines).encode("ascii") + b"\n", tags
