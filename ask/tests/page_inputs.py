@@ -1,12 +1,15 @@
 """What the tests of `page` share: the inputs of the repository, pages made of them, and what `labsys` says of them."""
+import contextlib
 import hashlib
+import io
 import os
 import pathlib
 import subprocess
-import sys
 from typing import Dict, List, Tuple, Union
 
 from run_cases import read_case
+
+from labask import main as labask_main
 
 TOP = pathlib.Path(__file__).resolve().parent.parent.parent
 ASK, EXAMPLES, CASES = TOP / "ask", TOP / "examples", TOP / "tests" / "cases"
@@ -37,10 +40,16 @@ def labsys(*words: str, given: bytes = b"") -> Tuple[int, bytes]:
 
 
 def labask(*words: Union[str, bytes]) -> Tuple[int, bytes, str]:
-    """The exit status of a command of `labask`, its output and its messages."""
-    done = subprocess.run([sys.executable, str(ASK / "labask"), *words], stdin=subprocess.DEVNULL, stdout=subprocess.PIPE,
-                          stderr=subprocess.PIPE, check=False)
-    return done.returncode, done.stdout, done.stderr.decode("utf-8", "replace")
+    """The exit status of a command of `labask`, its output and its messages, in this process."""
+    written, messages = io.BytesIO(), io.StringIO()
+    out = io.TextIOWrapper(written, encoding="utf-8")
+    with contextlib.redirect_stdout(out), contextlib.redirect_stderr(messages):
+        try:
+            status = labask_main.main([os.fsdecode(word) for word in words])
+        except SystemExit as end:
+            status = int(end.code or 0)
+        out.flush()
+    return status, written.getvalue(), messages.getvalue()
 
 
 def make_page(path: pathlib.Path, folder: pathlib.Path, *words: str) -> pathlib.Path:
@@ -73,7 +82,7 @@ def input_of(path: pathlib.Path) -> bytes:
     """The input of an example or of a case."""
     if path.suffix == ".txt":
         return path.read_bytes()
-    text: bytes = read_case(str(path))["input"]
+    text: bytes = read_case(str(path))["input"]  # type: ignore[no-untyped-call]
     return text
 
 

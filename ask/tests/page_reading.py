@@ -16,7 +16,8 @@ DETAIL = """(() => {
   detail.querySelectorAll("dt").forEach(term => terms[term.textContent] = term.nextElementSibling);
   return { row: detail.previousElementSibling.id, reply: terms.Reply.textContent, caller: terms["Caller before it"].textContent,
     trail: [...terms.Trail.querySelectorAll("code")].map(code => code.textContent), seers: terms["Reply is seen by"].textContent,
-    script: terms.Script.querySelector("code").textContent };
+    script: terms.Script.querySelector("code").textContent,
+    why: terms.Why ? [...terms.Why.children].map(line => line.textContent) : null };
 })()"""
 GREY = """[...document.querySelectorAll("tbody[data-tag]")].map(life => [life.dataset.tag, life.classList.contains("unseen")])"""
 WHOLE = "new Promise(done => { const look = () => document.querySelector('.later') ? setTimeout(look, 20) : done(); look(); })"
@@ -29,7 +30,7 @@ SET = """(() => {
   control.dispatchEvent(new Event(%r));
 })()"""
 
-# elements with text whose contrast to their background is below 4.5
+# elements with text, and texts that the style sheet puts before elements, whose contrast to their background is below 4.5
 CONTRAST = """(() => {
   const light = (colour) => {
     const parts = colour.match(/[\\d.]+/g).map(Number).slice(0, 3).map(part => part / 255)
@@ -44,18 +45,29 @@ CONTRAST = """(() => {
     return "rgb(255, 255, 255)";
   };
   const found = [];
+  const measure = (element, style, text) => {
+    const [one, two] = [light(style.color), light(behind(element))].sort((a, b) => b - a);
+    const contrast = (one + 0.05) / (two + 0.05);
+    if (contrast < 4.5 || style.opacity !== "1") found.push([contrast.toFixed(2), element.tagName, element.className, text].join("|"));
+  };
   for (const element of document.querySelectorAll("body *")) {
     const own = [...element.childNodes].some(node => node.nodeType === 3 && node.data.trim());
     if (!own || element.closest("script, noscript") || !element.checkVisibility()) continue;
-    const style = getComputedStyle(element);
-    const [one, two] = [light(style.color), light(behind(element))].sort((a, b) => b - a);
-    const contrast = (one + 0.05) / (two + 0.05);
-    if (contrast < 4.5 || style.opacity !== "1") {
-      found.push([contrast.toFixed(2), element.tagName, element.className, element.textContent.slice(0, 40)].join("|"));
-    }
+    measure(element, getComputedStyle(element), element.textContent.slice(0, 40));
+  }
+  for (const element of document.querySelectorAll("tbody *")) {
+    const before = getComputedStyle(element, "::before");
+    if (element.checkVisibility() && /[^"]/.test(before.content.replace(/^(none|normal)$/, ""))) measure(element, before, before.content);
   }
   return found;
 })()"""
+
+# at narrow widths: what scrolls sideways, and cells of rows that stand without what heads their column
+SCROLLED = """[...document.querySelectorAll("*")].filter(each => each.scrollWidth > each.clientWidth + 1
+  && ["auto", "scroll"].includes(getComputedStyle(each).overflowX)).map(each => each.tagName + "." + each.className)"""
+UNHEADED = """[...document.querySelectorAll("tbody > tr:not(.note, .crossing, .detail) > td")].filter(cell => cell.checkVisibility()
+  && !/[a-z]/i.test(getComputedStyle(cell, "::before").content.replace(/^(none|normal)$/, ""))).map(cell => cell.outerHTML)"""
+FOCUSED = "document.activeElement.closest('tr')?.id ?? ''"
 
 # cells and other elements that lie over their neighbours, or whose content is wider than they are
 OVERLAPS = """(() => {

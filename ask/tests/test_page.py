@@ -5,7 +5,6 @@ each call with the reply of `play`, and the records of the trail; it names no ad
 world made. Then words of the command line, the JSON of a run, lanes, and the size of a page of 10,000 calls.
 """
 import collections
-import html.parser
 import itertools
 import json
 import os
@@ -13,107 +12,22 @@ import pathlib
 import re
 import subprocess
 import sys
-from dataclasses import dataclass, field
-from typing import Any, DefaultDict, Dict, List, Optional, Tuple, Union
+from typing import Any, DefaultDict, List, Union
 
 import pytest
+from page_html import read_page
 from page_inputs import (ASK, EXAMPLES, HOSTILE, examples, input_of, inputs, labask, labsys, make_page, reply_lines, trail_of,
                          world_of_many)
 
-from labask import main as labask_main
 from labask.page_parts.lanes import LaneKind, Lanes, make_patterns, stretches
 from labask.page_parts.markup import embedded
 from labask.page_parts.words import caps_of
-from labask.worlds import UTILITIES, quoted, read_world, split_words
+from labask.worlds import read_world, split_words
 
 pytestmark = pytest.mark.usefixtures("program")
 
 LARGEST = 10 * 1024 * 1024
 COMPARED = 1_000_000  # bytes of an input whose rows are compared
-ALLOWED = set("""html head meta title style body header h1 p code blockquote br nav ul li a main section h2 span i b form label select
-option input button output noscript div table caption colgroup col thead tbody tr th td small script""".split())
-ATTRIBUTES = set("""lang charset name content id class style href aria-label aria-labelledby aria-hidden aria-live for hidden value type
-min max inputmode autocomplete scope tabindex title colspan rowspan data-label data-tag""".split())
-
-
-@dataclass
-class Row:
-    """A row of a call: its number, its cells by their classes, the lines of its records, and the style of its mark."""
-    number: int
-    cells: Dict[str, str] = field(default_factory=dict)
-    records: List[str] = field(default_factory=list)
-    style: str = ""
-
-    @property
-    def line(self) -> str:
-        """The reply line that the row says."""
-        words = split_words(self.cells["c"].encode("latin-1"))[0]
-        path = f" {quoted(words[-1].value)}" if words[0].text in UTILITIES else ""
-        return f"{self.cells['w']} {words[0].text}{path} {self.cells['r'].strip()}"
-
-
-class PageReader(html.parser.HTMLParser):
-    """Reads the rows of calls of a page, and fails where it has other elements, attributes or addresses than it should."""
-
-    def __init__(self) -> None:
-        super().__init__(convert_charrefs=True)
-        self.rows: List[Row] = []
-        self.row: Optional[Row] = None
-        self.cell: Optional[str] = None
-        self.scripts: List[str] = []
-        self.inside: Optional[str] = None
-
-    def handle_starttag(self, tag: str, attrs: List[Tuple[str, Optional[str]]]) -> None:
-        named = {name: value or "" for name, value in attrs}
-        assert tag in ALLOWED, f"element {tag}"
-        assert set(named) <= ATTRIBUTES, f"attributes {sorted(set(named) - ATTRIBUTES)} of {tag}"
-        assert named.get("href", "#").startswith("#"), f"address {named.get('href')}"
-        self.inside = tag
-        if tag == "script":
-            self.scripts.append("")
-        elif tag == "tr":
-            self.begin_row(named)
-        elif self.row is not None:
-            self.add_to_row(self.row, tag, named)
-
-    def begin_row(self, named: Dict[str, str]) -> None:
-        """Begins a row, which is kept where it is that of a call."""
-        self.row = self.cell = None
-        if named.get("id", "").startswith("call-"):
-            self.row = Row(int(named["id"][5:]))
-            self.rows.append(self.row)
-
-    def add_to_row(self, row: Row, tag: str, named: Dict[str, str]) -> None:
-        """Adds to a row what the start of an element says."""
-        if tag in ("td", "th"):
-            self.cell = named.get("class", tag)
-            row.cells[self.cell] = ""
-        elif tag == "li" and "title" in named:
-            row.records.append(named["title"])
-        elif tag == "i":
-            row.style = named["style"]
-
-    def handle_endtag(self, tag: str) -> None:
-        self.inside = None
-        if tag in ("table", "tbody"):
-            self.row = None
-
-    def handle_data(self, data: str) -> None:
-        if self.inside == "script":
-            self.scripts[-1] += data
-        if self.row is not None and self.cell is not None:
-            self.row.cells[self.cell] += data
-
-
-def read_page(text: str) -> PageReader:
-    """A page that was read."""
-    reader = PageReader()
-    reader.feed(text)
-    reader.close()
-    assert len(reader.scripts) == 2, f"{len(reader.scripts)} scripts"
-    for address in ("http:", "https:", "//", "@import", "url("):
-        assert address not in re.sub(r"(?m)^\s*// .*$", "", reader.scripts[1]), f"the script has {address}"
-    return reader
 
 
 def json_of(path: pathlib.Path) -> Any:
@@ -140,7 +54,7 @@ def compare_page(page: str, text: bytes, folder: pathlib.Path) -> int:
 
 
 @pytest.mark.parametrize("path", inputs(), ids=lambda path: path.name)
-def test_each_input_has_its_page(path: pathlib.Path, tmp_path: pathlib.Path, capsys: pytest.CaptureFixture[str]) -> None:
+def test_each_input_has_its_page(path: pathlib.Path, tmp_path: pathlib.Path) -> None:
     """Of a refused input there is no page. The page of another one has its rows; those of a long input, which gets a page with one
     label, are counted alone."""
     text, page = input_of(path), tmp_path / "page.html"
@@ -148,8 +62,7 @@ def test_each_input_has_its_page(path: pathlib.Path, tmp_path: pathlib.Path, cap
     world.write_bytes(text)
     accepted, said = labsys("check", given=text)
     one = ["--label", read_world(text).policy.levels[0]] if accepted == 0 and len(text) > COMPARED else []
-    status = labask_main.main(["page", str(world), "--output", str(page), *one])
-    messages = capsys.readouterr().err
+    status, _, messages = labask("page", str(world), "--output", str(page), *one)
     assert status == (0 if accepted == 0 else 2), messages
     if status == 2:
         assert messages and not page.exists(), "a page of a refused input"

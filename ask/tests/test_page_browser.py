@@ -11,8 +11,9 @@ from urllib.parse import quote
 
 import pytest
 from browser import Page, driver, page  # noqa: F401  fixtures
-from page_inputs import EXAMPLES, HOSTILE, labsys, make_page, reply_lines, trail_of, world_of_many
-from page_reading import CONTRAST, CROSSING, GREY, HASH, OVERLAPS, PRINTED, SET, SHOWN, WHOLE, detail_of, rows_of
+from page_inputs import EXAMPLES, HOSTILE, labask, labsys, make_page, reply_lines, trail_of, world_of_many
+from page_reading import (CONTRAST, CROSSING, FOCUSED, GREY, HASH, OVERLAPS, PRINTED, SCROLLED, SET, SHOWN, UNHEADED, WHOLE, detail_of,
+                          rows_of)
 
 from labask.page_parts.words import caps_of
 from labask.worlds import World, read_world, split_words
@@ -119,6 +120,48 @@ def test_labels_and_calls_chosen_by_the_address(page: Page, name: str, tmp_path:
     assert page.evaluate("performance.getEntriesByType('resource').length") == 0, "the page asks the network"
 
 
+def said_by_why(path: pathlib.Path, call: int) -> List[str]:
+    """The lines that `why` says of a call, below the one that names it, but for those that name calls which come from it."""
+    status, out, messages = labask("why", str(path), str(call))
+    assert status in (0, 3), messages
+    lines = out.decode("utf-8").partition("\n  where this call is done")[0].split("\n")
+    return [line.strip() for line in lines if line.startswith("  ")]
+
+
+@pytest.mark.parametrize("name", CHOSEN)
+def test_denied_and_refused_calls_have_what_why_says(page: Page, name: str, tmp_path: pathlib.Path) -> None:
+    example = EXAMPLES / f"{name}.txt"
+    page.open(make_page(example, tmp_path))
+    for call, line in enumerate(replies_of(example.read_bytes()), 1):
+        page.evaluate(HASH % f"'call={call}'")
+        detail = detail_of(page)
+        explained = not detail["reply"].startswith("ok") or line.split(" ")[1] == "exec"
+        assert detail["why"] == (said_by_why(example, call) if explained else None), f"call {call}"
+
+
+def test_why_of_later_calls_is_left_out(page: Page, tmp_path: pathlib.Path) -> None:
+    world = long_world(tmp_path, 1000)
+    replies = [line.split(" ") for line in replies_of(world.read_bytes())]
+    asked = [call for call, words in enumerate(replies, 1) if words[2] != "ok" or words[1] == "exec"]
+    assert len(asked) > 200
+    page.open(make_page(world, tmp_path), f"#call={asked[199]}")
+    assert detail_of(page)["why"] == said_by_why(world, asked[199])
+    page.evaluate(HASH % f"'call={asked[200]}'")
+    assert len(detail_of(page)["why"]) == 1 and "labask why FILE N" in detail_of(page)["why"][0]
+
+
+def test_why_where_there_is_no_observer(page: Page, tmp_path: pathlib.Path) -> None:
+    """In a world with as many names as there may be."""
+    names = [f"n{number}" for number in range(64)]
+    world = tmp_path / "full.txt"
+    world.write_text("\n".join(["world 2", "levels " + " ".join(names[:16]), "categories " + " ".join(f"c{each}" for each in names),
+                                "grades " + " ".join(f"g{each}" for each in names[:16]), "bound all", "dir / 0700 0 0 n0",
+                                'proc n0 1 1 - "="', "script", "1@n0 readdir /", ""]), encoding="ascii")
+    page.open(make_page(world, tmp_path), "#call=1")
+    assert "EACCES" in detail_of(page)["reply"]
+    assert len(detail_of(page)["why"]) == 1 and "none is left for an observer" in detail_of(page)["why"][0]
+
+
 def tab_to(page: Page, identifier: str) -> None:
     """Goes to an element by the key Tab, and requires that the focus is seen there."""
     for _ in range(60):
@@ -153,6 +196,46 @@ def test_labels_and_calls_chosen_by_keys(page: Page, tmp_path: pathlib.Path) -> 
     unnamed = page.evaluate("[...document.querySelectorAll('select, input')].filter(each => !each.labels.length).length")
     assert unnamed == 0, "a control without a label"
     assert page.evaluate("location.hash") == f"#label={quote(label, safe='')}&call=6&only=d"
+
+
+def test_tab_goes_through_the_calls_in_their_order(page: Page, tmp_path: pathlib.Path) -> None:
+    page.open(make_page(EXAMPLES / "backup_for_all.txt", tmp_path))
+    tab_to(page, "only")
+    page.press("Tab")
+    assert page.evaluate("document.activeElement.hash") == "#labels", "no link leads past the calls"
+    focused = []
+    for _ in range(11):
+        page.press("Tab")
+        focused.append(page.evaluate(FOCUSED))
+    assert focused == [*(f"call-{call}" for call in range(1, 11)), ""]
+
+
+def test_keys_that_pick_calls_move_the_focus(page: Page, tmp_path: pathlib.Path) -> None:
+    page.open(make_page(EXAMPLES / "backup_for_all.txt", tmp_path))
+    tab_to(page, "only")
+    for _ in range(2):
+        page.press("Tab")
+    for key, call in (("ArrowDown", 2), ("ArrowDown", 3), ("ArrowUp", 2), ("End", 10), ("ArrowDown", 10), ("ArrowUp", 9), ("Home", 1)):
+        page.press(key)
+        assert page.evaluate(FOCUSED) == f"call-{call}", key
+        assert detail_of(page)["row"] == f"call-{call}" or key == "ArrowDown", key
+    page.press("Enter")
+    assert detail_of(page) is None, "the key Enter does not put the details away"
+    page.evaluate(SET % ("only", "x", "change"))
+    page.evaluate("document.querySelector('#call-7 th a').focus()")
+    page.press("ArrowDown")
+    assert page.evaluate(FOCUSED) == detail_of(page)["row"] == "call-9", "the next call that is shown"
+    page.press("Home")
+    assert page.evaluate(FOCUSED) == "call-6", "the first call that is shown"
+
+
+def test_keys_lead_to_rows_that_are_not_made_yet(page: Page, tmp_path: pathlib.Path) -> None:
+    page.open(make_page(long_world(tmp_path, GENERATED), tmp_path))
+    page.evaluate("document.querySelector('.calls th a').focus()")
+    page.press("End")
+    assert page.evaluate(FOCUSED) == detail_of(page)["row"] == f"call-{GENERATED}"
+    page.press("ArrowUp")
+    assert page.evaluate(FOCUSED) == f"call-{GENERATED - 1}"
 
 
 def test_page_without_scripts(page: Page, tmp_path: pathlib.Path) -> None:
@@ -214,6 +297,9 @@ def test_contrast_and_overlaps(page: Page, name: str, tmp_path: pathlib.Path) ->
     for width in WIDTHS:
         page.resize(width, 900)
         assert page.evaluate(OVERLAPS) == [], f"{width} pixels"
+    assert page.evaluate(SCROLLED) == [], "something scrolls sideways at the least width"
+    assert page.evaluate(UNHEADED) == [], "a cell of a card has no heading"
+    assert page.evaluate(CONTRAST) == [], "dark cards"
     assert page.evaluate("window.hacked") is None, "text of the world was run"
     assert page.evaluate("document.querySelectorAll('img, svg, main script').length") == 0, "text of the world became elements"
 

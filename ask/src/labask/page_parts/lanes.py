@@ -3,7 +3,7 @@ import enum
 from bisect import bisect_right
 from dataclasses import dataclass
 from functools import cached_property
-from typing import Dict, FrozenSet, Iterator, List, Mapping, Optional, Tuple
+from typing import Dict, FrozenSet, Iterator, List, Mapping, Optional, Set, Tuple
 
 from .run import Call, Run
 from .views import label_of
@@ -54,13 +54,13 @@ def span_of(run: Run, tag: str) -> Tuple[int, int]:
     return life.moments[0].call, life.ended[0] if life.ended else NEVER
 
 
-def make_lanes(run: Run, order: Mapping[str, int]) -> Lanes:
-    """The lanes of a run; `order` has the places of labels."""
+def make_lanes(run: Run, order: Mapping[str, int], most: int = MOST_LANES) -> Lanes:
+    """The lanes of a run, so many at most; `order` has the places of labels."""
     tags = sorted(acting(run), key=lambda tag: (order.get(label_of(tag), -1), int(tag.partition("@")[0])))
     labels = list(dict.fromkeys(map(label_of, tags)))
-    if len(tags) <= MOST_LANES:
+    if len(tags) <= most:
         return Lanes(LaneKind.PROCESS, tuple(tags), tuple(span_of(run, tag) for tag in tags))
-    if len(labels) <= MOST_LANES:
+    if len(labels) <= most:
         return Lanes(LaneKind.LABEL, tuple(labels), tuple((0, NEVER) for _ in labels))
     return Lanes(LaneKind.NONE, (), ())
 
@@ -85,7 +85,9 @@ def make_patterns(lanes: Lanes) -> Patterns:
             changes.setdefault(begin + 1 if begin else 0, []).append((lane, True))
             changes.setdefault(end + 1, []).append((lane, False))
     sets: Dict[FrozenSet[int], int] = {}
-    starts, which, present = [], [], set()
+    starts: List[int] = []
+    which: List[int] = []
+    present: Set[int] = set()
     for call in sorted(changes):
         for lane, alive in changes[call]:
             (present.add if alive else present.discard)(lane)
@@ -98,27 +100,20 @@ def make_patterns(lanes: Lanes) -> Patterns:
 
 def stretches(present: FrozenSet[int]) -> Iterator[Tuple[int, int]]:
     """The first lane and the length of each stretch of neighbouring lanes of a set."""
-    first = last = None
-    for lane in sorted(present):
-        if last is not None and lane == last + 1:
-            last = lane
-            continue
-        if last is not None:
-            yield first, last - first + 1
-        first = last = lane
-    if last is not None:
-        yield first, last - first + 1
+    starts = (lane for lane in sorted(present) if lane - 1 not in present)
+    ends = (lane for lane in sorted(present) if lane + 1 not in present)
+    return ((first, last - first + 1) for first, last in zip(starts, ends))
 
 
-def pattern_rules(patterns: Patterns) -> Iterator[str]:
-    """The rules of the style sheet that draw the lines of each pattern."""
+def pattern_rules(patterns: Patterns, letter: str, cell: str) -> Iterator[str]:
+    """The rules of the style sheet that draw the lines of each pattern in the cells that a selector names."""
     for number, present in enumerate(patterns.sets):
         layers = list(stretches(present))
         if layers:
             images = ",".join("var(--line)" for _ in layers)
             places = ",".join(f"calc({first}*var(--w)) 0" for first, _ in layers)
             sizes = ",".join(f"calc({length}*var(--w)) 100%" for _, length in layers)
-            yield f".a{number} .g{{background-image:{images};background-position:{places};background-size:{sizes}}}"
+            yield f".{letter}{number} {cell}{{background-image:{images};background-position:{places};background-size:{sizes}}}"
 
 
 def connector(lanes: Lanes, call: Call) -> Optional[Tuple[int, int]]:

@@ -2,7 +2,7 @@
 import html
 import json
 import re
-from typing import Any
+from typing import Any, Sequence
 
 CONTROL = re.compile("[\x00-\x08\x0b-\x1f\x7f-\x9f\u202a-\u202e\u2066-\u2069\ud800-\udfff]")
 SHOWN = 2000
@@ -29,6 +29,16 @@ def embedded(value: Any) -> str:
     """A value as JSON that may stand in an element `script`."""
     written = json.dumps(value, separators=(",", ":"), ensure_ascii=True)
     return written.replace("<", "\\u003c").replace(">", "\\u003e").replace("&", "\\u0026")
+
+
+def head_row(heads: Sequence[str]) -> str:
+    """The head of a table, from the texts that head its columns."""
+    return "<thead><tr>" + "".join(f'<th scope="col">{text(head)}' for head in heads) + "</thead>"
+
+
+def headed(heads: Sequence[str], cells: Sequence[str]) -> str:
+    """Cells with what heads their columns: on a narrow screen it stands beside each cell, and the head of the table is not shown."""
+    return "".join(f'<td data-head="{text(head)}">{cell}' for head, cell in zip(heads, cells))
 
 
 def counted(number: int, one: str, many: str = "") -> str:

@@ -5,7 +5,7 @@ from labask.playing import Player
 from labask.who import RIGHTS, Access, Answer, ask
 from labask.worlds import World, path_word
 
-from .markup import code, text
+from .markup import code, head_row, headed, text
 
 MOST_RIGHTS = 20_000
 
@@ -28,11 +28,12 @@ def right_item(answer: Answer) -> str:
 def right_rows(world: World, answers: Iterator[Answer]) -> Iterator[str]:
     """The rows of the objects, with a cell for each process."""
     cells: Dict[Tuple[bytes, str], List[str]] = {}
+    tags = [process.tag for process in world.processes]
     for answer in answers:
         cells.setdefault((answer.path, answer.process), []).append(right_item(answer))
     for each in world.objects:
-        row = "".join(f"<td><ul>{''.join(cells[each.path, process.tag])}</ul>" for process in world.processes)
-        yield f'<tr data-label="{text(each.label)}"><th scope="row">{code(path_word(each.path))}{row}\n'
+        lists = [f"<ul>{''.join(cells[each.path, tag])}</ul>" for tag in tags]
+        yield f'<tr data-label="{text(each.label)}"><th scope="row">{code(path_word(each.path))}{headed(tags, lists)}\n'
 
 
 def rights_section(player: Player, world: World) -> Iterator[str]:
@@ -48,7 +49,7 @@ def rights_section(player: Player, world: World) -> Iterator[str]:
     yield ("<p>What each process may do before the first call: by the rules alone, by a capability that is exercised, or not, and then "
            "which check denies it. Each was played as a call on the world without its script; what the script changes is not in "
            "it.</p>\n")
-    heads = "".join(f'<th scope="col">{text(process.tag)}' for process in world.processes)
-    yield f'<div class="wide"><table class="plain rights"><thead><tr><th scope="col">Object{heads}</thead><tbody>\n'
+    heads = head_row(["Object", *(process.tag for process in world.processes)])
+    yield f'<div class="wide"><table class="plain rights">{heads}<tbody>\n'
     yield from right_rows(world, ask(world, world.processes, world.objects, player))
     yield "</tbody></table></div>\n"

@@ -19,7 +19,8 @@ class Record:
     @property
     def event(self) -> str:
         """The word of the record."""
-        return self.members["event"]
+        word: str = self.members["event"]
+        return word
 
 
 @dataclass(frozen=True)

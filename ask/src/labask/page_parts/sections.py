@@ -1,4 +1,5 @@
 """The sections of a page but the table of calls: its head, labels, processes, objects, and the words that explain them."""
+from dataclasses import dataclass
 from typing import Dict, Iterator, List, Mapping, Sequence, Tuple
 
 from labask.playing import Outcome
@@ -6,11 +7,14 @@ from labask.reasons import error_in_words
 from labask.worlds import World, path_word
 
 from .lanes import LaneKind, Lanes
-from .markup import code, counted, cut, text
+from .markup import code, counted, cut, head_row, headed, text
 from .run import Life, Moment, Run
 from .views import View, label_of
 from .words import SETS, caps_of, check_text
 
+LABEL_HEADS = ("Replies that it sees", "Processes that it sees", "Crossing")
+LIFE_HEADS = ("From", "Label", *(name.capitalize() for name in SETS))
+OBJECT_HEADS = ("Kind", "Mode", "Owner", "Group", "Label", "Capabilities", "Number", "Line")
 MARKS = (
     ("k", "the call was done"),
     ("d", "a check denied it: the reply names the check and the place"),
@@ -30,17 +34,15 @@ def counts_text(run: Run) -> str:
             "capability was exercised.")
 
 
-def head_section(run: Run, name: str, links: Mapping[str, str]) -> Iterator[str]:
-    """The head of the page; `links` has the sections by their ids."""
-    yield f'<header><h1>{text(name)}</h1>\n<p class="lead">A run of <code>labsys</code>. {counts_text(run)}</p>\n'
+def head_of(run: Run, name: str) -> Iterator[str]:
+    """The head of the page."""
+    yield f'<h1>{text(name)}</h1>\n<p class="lead">A run of <code>labsys</code>. {counts_text(run)}</p>\n'
     first = run.world.objects[0].line if run.world.objects else 0
     said = [note.text for note in run.notes if note.line < first]
     if said:
         yield f'<blockquote><p>{"<br>".join(map(cut, said))}</p></blockquote>\n'
     yield ('<p class="source">Every reply, record and view on this page was played by <code>labsys</code>. The page arranges them and '
            "judges nothing. It shows one run: what no process asked for in it is not shown to be denied or allowed.</p>\n")
-    items = "".join(f'<li><a href="#{where}">{title}</a>' for where, title in links.items())
-    yield f'<nav aria-label="Sections"><ul>{items}</ul></nav></header>\n'
 
 
 def lane_text(lanes: Lanes) -> str:
@@ -55,37 +57,67 @@ def lane_text(lanes: Lanes) -> str:
             "starts and ends where it ends.")
 
 
+def marks_legend() -> str:
+    """What the marks mean."""
+    marks = "".join(f'<li><span class="{name}"><i></i></span>{what}' for name, what in MARKS)
+    return (f'<ul class="legend" aria-label="Marks">{marks}<li><span class="sample unseen">grey</span>the chosen label does not see the '
+            'reply<li><span class="sample crossing">line</span>by a capability, the call below goes between '
+            "what the chosen label sees and what it does not. It crosses the label, which sees nothing more</ul>\n")
+
+
 def legend(lanes: Lanes) -> Iterator[str]:
-    """What the marks mean, and how the rows are read."""
+    """How the rows are read, and what the marks mean."""
     yield (f"<p>Read from the top: each row is a call, in the order of the script. {lane_text(lanes)} A place such as <code>p1</code> is "
            "what the first name of the call's path leads to, and <code>q1</code> that of its second path. A record of the trail stands "
            "beside the call that left it.</p>\n")
-    marks = "".join(f'<li><span class="{name}"><i></i></span>{what}' for name, what in MARKS)
-    yield (f'<ul class="legend" aria-label="Marks">{marks}<li><span class="sample unseen">grey</span>the chosen label does not see the '
-           'reply<li><span class="sample crossing">line</span>by a capability, the call below goes between '
-           "what the chosen label sees and what it does not. It crosses the label, which sees nothing more</ul>\n")
+    yield marks_legend()
 
 
 CONTROLS = """\
 <form class="controls" aria-label="What is shown" hidden>
-<p><label for="label">See as label</label> <select id="label"><option value="">all of the run</option>{labels}</select></p>
-<p><label for="call">Pick call</label> <input id="call" type="number" min="1" max="{last}" inputmode="numeric" autocomplete="off">
+<p><label for="label">See as label</label> <select id="label"><option value="">{whole}</option>{labels}</select></p>
+<p><label for="call">Pick {one}</label> <input id="call" type="number" min="1" max="{last}" inputmode="numeric" autocomplete="off">
 <button type="button" id="previous">Previous</button> <button type="button" id="next">Next</button>
-<button type="button" id="marked">Next marked</button></p>
-<p><label for="only">Show</label> <select id="only"><option value="">all calls</option><option value="d">denied</option>
-<option value="o">refused otherwise</option><option value="x">capability exercised</option><option value="s">with records</option>
-</select></p>
+<button type="button" id="marked">{marked}</button></p>
+<p><label for="only">Show</label> <select id="only">{shown}</select></p>
 <output id="said" for="label call only" aria-live="polite"></output>
 </form>
 <noscript><p class="source">Scripts are off: all rows are below, and <a href="#labels">the table of labels</a> says what each label
-sees. To choose a label or to pick a call takes scripts.</p></noscript>
+sees. To choose a label or to pick a {one} takes scripts.</p></noscript>
 """
 
 
-def controls(run: Run, views: Sequence[View]) -> str:
-    """The controls of the table of calls."""
-    labels = "".join(f'<option value="{text(view.label)}">{text(view.label)}</option>' for view in views)
-    return CONTROLS.format(labels=labels, last=len(run.calls))
+@dataclass(frozen=True)
+class Picking:
+    """What the controls of a table say: what is seen without a label, what one row is, where the button for marked ones leads, and
+    which rows may be shown, by their classes."""
+    whole: str
+    one: str
+    marked: str
+    shown: Mapping[str, str]
+
+
+CALLS = Picking("all of the run", "call", "Next marked", {
+    "": "all calls", "d": "denied", "o": "refused otherwise", "x": "capability exercised", "s": "with records"})
+ROWS = Picking("all of the runs", "row", "Next difference", {
+    "": "all rows", "pf": "replies differ", "pr": "records differ", "pl": "in one run alone", "pd": "denied in a run",
+    "po": "refused otherwise in a run", "px": "capability exercised in a run"})
+
+
+def options(values: Mapping[str, str]) -> str:
+    """The options of a control, by their values."""
+    return "".join(f'<option value="{text(value)}">{text(said)}</option>' for value, said in values.items())
+
+
+def controls(picking: Picking, labels: Sequence[str], last: int) -> str:
+    """The controls of a table of calls, which has so many rows."""
+    return CONTROLS.format(whole=picking.whole, one=picking.one, marked=picking.marked, shown=options(picking.shown),
+                           labels=options({label: label for label in labels}), last=last)
+
+
+def skip_link() -> str:
+    """A link past the calls, which is shown where a key leads to it."""
+    return '<p class="skip"><a href="#labels">Skip the calls</a></p>\n'
 
 
 def view_row(run: Run, view: View) -> str:
@@ -94,8 +126,8 @@ def view_row(run: Run, view: View) -> str:
     if view.crossed is not None:
         whole = f'<a href="#call-{view.crossed}">crossed by call {view.crossed}</a>'
     processes = sum(label_of(tag) in view.dominated for tag in run.lives)
-    return (f'<tr data-label="{text(view.label)}"><th scope="row">{code(view.label)}<td>{len(view.seen):,} of {len(run.calls):,}'
-            f"<td>{processes:,} of {len(run.lives):,}<td>{whole}")
+    cells = (f"{len(view.seen):,} of {len(run.calls):,}", f"{processes:,} of {len(run.lives):,}", whole)
+    return f'<tr data-label="{text(view.label)}"><th scope="row">{code(view.label)}{headed(LABEL_HEADS, cells)}'
 
 
 def policy_text(world: World) -> str:
@@ -115,17 +147,15 @@ def labels_section(run: Run, views: Sequence[View], left: int) -> Iterator[str]:
     yield policy_text(run.world)
     if left:
         yield f"<p>The world names {counted(left, 'more label')}; <code>labask page --label LABEL</code> asks for one.</p>\n"
-    yield ('<div class="wide"><table class="plain"><thead><tr><th scope="col">Label<th scope="col">Replies that it sees'
-           '<th scope="col">Processes that it sees<th scope="col">Crossing</thead><tbody>\n')
+    yield f'<div class="wide"><table class="plain">{head_row(("Label", *LABEL_HEADS))}<tbody>\n'
     yield from (view_row(run, view) + "\n" for view in views)
     yield "</tbody></table></div>\n"
 
 
-def start_text(run: Run, life: Life) -> str:
+def start_text(run: Run, life: Life, link: str) -> str:
     """How a process started."""
     if life.parent is not None:
-        call = life.moments[0].call
-        return f'child of {code(life.parent)}, by <a href="#call-{call}">call {call}</a>'
+        return f"child of {code(life.parent)}, by {call_link(life.moments[0].call, link)}"
     made = run.world.processes_by_tag.get(life.tag)
     if made is None:
         return ""
@@ -133,22 +163,28 @@ def start_text(run: Run, life: Life) -> str:
     return f"line {made.line}: user {made.user}, group {made.group}, further groups {groups}"
 
 
-def moment_cells(moment: Moment) -> str:
+def call_link(call: int, link: str) -> str:
+    """A link to a call, whose id begins with `link`."""
+    return f'<a href="#{link}-{call}">call {call}</a>'
+
+
+def moment_cells(moment: Moment, link: str) -> str:
     """The cells of a moment of a process."""
-    since = f'<a href="#call-{moment.call}">call {moment.call}</a>: {moment.cause}' if moment.call else "the start"
-    sets = "".join(f"<td>{cut(names) or 'none'}" for names in caps_of(moment.caps).values())
-    return f"<td>{since}<td>{code(moment.label)}{sets}"
+    since = f"{call_link(moment.call, link)}: {moment.cause}" if moment.call else "the start"
+    sets = (cut(names) or "none" for names in caps_of(moment.caps).values())
+    return headed(LIFE_HEADS, (since, code(moment.label), *sets))
 
 
-def life_rows(run: Run, life: Life, depth: int) -> Iterator[str]:
+def life_rows(run: Run, life: Life, depth: int, link: str) -> Iterator[str]:
     """The rows of a process: one for each moment, and one for its end."""
-    rows = [moment_cells(moment) for moment in life.moments]
+    rows = [moment_cells(moment, link) for moment in life.moments]
     if life.ended:
         call, how = life.ended
-        rows.append(f'<td><a href="#call-{call}">call {call}</a>: end<td colspan="4">{text(how)}')
+        rows.append(f'{headed(LIFE_HEADS, (call_link(call, link) + ": end",))}<td colspan="4" data-head="End">{text(how)}')
     last = "" if life.ended else "; lives at the end"
+    said = f'<span class="tag">{text(life.tag)}</span><small>{start_text(run, life, link)}{last}</small>'
     yield (f'<tbody data-tag="{text(life.tag)}"{" class=child" if depth else ""}><tr><th scope="rowgroup" rowspan="{len(rows)}" '
-           f'style="--depth:{depth}"><span class="tag">{text(life.tag)}</span><small>{start_text(run, life)}{last}</small>{rows[0]}\n')
+           f'style="--depth:{depth}">{said}{rows[0]}\n')
     yield from (f"<tr>{row}\n" for row in rows[1:])
     yield "</tbody>"
 
@@ -166,66 +202,60 @@ def family(run: Run, order: Mapping[str, int]) -> Iterator[Tuple[int, Life]]:
         waiting += [(depth + 1, child) for child in reversed(run.lives[tag].children)]
 
 
-def processes_section(run: Run, order: Mapping[str, int]) -> Iterator[str]:
-    """The ancestry of the processes, with their labels and capability sets from call to call."""
+def processes_section(run: Run, order: Mapping[str, int], link: str = "call") -> Iterator[str]:
+    """The ancestry of the processes, with their labels and capability sets from call to call. The ids of calls begin with `link`."""
     yield ("<p>Where a process comes from, and which label and capability sets it has from which call on, by the records of the trail. "
            "Children stand below their parents. What is effective lets a call go on where a check would deny it; what is permitted may "
            "be made effective; what is inheritable is for <code>exec</code>.</p>\n")
-    names = ("Process", "From", "Label", *(name.capitalize() for name in SETS))
-    heads = "".join(f'<th scope="col">{name}' for name in names)
-    yield f'<div class="wide"><table class="plain lives"><thead><tr>{heads}</thead>\n'
+    yield f'<div class="wide"><table class="plain lives">{head_row(("Process", *LIFE_HEADS))}\n'
     for depth, life in family(run, order):
-        yield from life_rows(run, life, depth)
+        yield from life_rows(run, life, depth, link)
     yield "</table></div>\n"
 
 
 def objects_section(world: World) -> Iterator[str]:
     """The objects of the world, before the first call."""
     yield ("<p>The files, directories and FIFOs of the world before the first call. The trail names an object by its number.</p>\n"
-           '<div class="wide"><table class="plain objects"><thead><tr><th scope="col">Path<th scope="col">Kind<th scope="col">Mode'
-           '<th scope="col">Owner<th scope="col">Group<th scope="col">Label<th scope="col">Capabilities<th scope="col">Number'
-           '<th scope="col">Line</thead><tbody>\n')
+           f'<div class="wide"><table class="plain objects">{head_row(("Path", *OBJECT_HEADS))}<tbody>\n')
     for each in world.objects:
         caps = code(each.caps) if each.caps else ""
-        yield (f'<tr data-label="{text(each.label)}"><th scope="row">{code(path_word(each.path))}<td>{each.kind.value}<td>{each.mode:04o}'
-               f"<td>{each.owner}<td>{each.group}<td>{code(each.label)}<td>{caps}<td>{code(each.number)}<td>{each.line}\n")
+        cells = (each.kind.value, f"{each.mode:04o}", str(each.owner), str(each.group), code(each.label), caps, code(each.number),
+                 str(each.line))
+        yield f'<tr data-label="{text(each.label)}"><th scope="row">{code(path_word(each.path))}{headed(OBJECT_HEADS, cells)}\n'
     yield "</tbody></table></div>\n"
 
 
-def overriding(run: Run) -> Dict[str, List[str]]:
-    """The checks that the replies and the records name, each with the capabilities that were exercised for it."""
-    found: Dict[str, Dict[str, None]] = {}
-    for call in run.calls:
-        if call.reply.check:
-            found.setdefault(call.reply.check, {})
-    for members in (record.members for record in run.records if record.event == "exercise"):
+def overriding(*runs: Run) -> Dict[str, List[str]]:
+    """The checks that the replies and the records of runs name, each with the capabilities that were exercised for it."""
+    denied = (call.reply.check for run in runs for call in run.calls)
+    found: Dict[str, Dict[str, None]] = {check: {} for check in denied if check}
+    for members in (record.members for run in runs for record in run.records if record.event == "exercise"):
         found.setdefault(members["check"], {})[members["cap"]] = None
     return {check: list(found[check]) for check in sorted(found)}
 
 
 def words_table(caption: str, heads: Sequence[str], rows: Iterator[Sequence[str]]) -> Iterator[str]:
     """A table with words; the first cell of a row heads it."""
-    yield f'<div class="wide"><table class="plain"><caption>{caption}</caption><thead><tr>'
-    yield from (f'<th scope="col">{head}' for head in heads)
-    yield "</thead><tbody>\n"
+    yield f'<div class="wide"><table class="plain"><caption>{caption}</caption>{head_row(heads)}<tbody>\n'
     for first, *cells in rows:
-        yield f'<tr><th scope="row">{first}' + "".join(f"<td>{cell}" for cell in cells) + "\n"
+        yield f'<tr><th scope="row">{first}{headed(heads[1:], cells)}\n'
     yield "</tbody></table></div>\n"
 
 
-def refusals_of(run: Run) -> List[Tuple[str, str]]:
+def refusals_of(*runs: Run) -> List[Tuple[str, str]]:
     """The calls and the error numbers with which they were refused otherwise than by a check, each once."""
-    return sorted({(call.reply.error, call.line.call) for call in run.calls if call.reply.outcome is Outcome.REFUSED})
+    return sorted({(call.reply.error or "", call.line.call) for run in runs for call in run.calls
+                   if call.reply.outcome is Outcome.REFUSED})
 
 
-def words_section(run: Run) -> Iterator[str]:
+def words_section(*runs: Run) -> Iterator[str]:
     """The checks and error numbers that occur, in words."""
-    checks, refusals = overriding(run), refusals_of(run)
+    checks, refusals = overriding(*runs), refusals_of(*runs)
     if not checks and not refusals:
         yield "<p>No check denied a call here, and no call was refused.</p>\n"
     if checks:
         rows = ((code(check), text(check_text(check)), " ".join(map(code, used)) or "none") for check, used in checks.items())
-        heads = ("Check", "In words, where its rule fails", "Exercised for it in this run")
+        heads = ("Check", "In words, where its rule fails", f"Exercised for it in {'this run' if len(runs) == 1 else 'these runs'}")
         yield from words_table("The checks of which the rule failed", heads, rows)
     if refusals:
         words = ((code(error), code(call), text(error_in_words(call, error))) for error, call in refusals)

@@ -3,7 +3,6 @@
 Which labels a label dominates is asked by a world with one process of each label and no script, of which `view` writes the end
 lines of those processes that it sees. Which call crosses a label is found by views of beginnings of the script.
 """
-from bisect import bisect_left
 from dataclasses import dataclass
 from typing import Dict, FrozenSet, Iterator, List, Optional, Sequence, Tuple
 
@@ -41,7 +40,8 @@ def named_labels(run: Run) -> List[str]:
 
 def world_of_labels(world: World, labels: Sequence[str]) -> bytes:
     """The policy of a world with one process of each label, and an empty script."""
-    lines = {each.line: None for each in (*world.objects[1:], *world.processes)}
+    lines = {each.line: None for each in world.objects[1:]}
+    lines.update((each.line, None) for each in world.processes)
     return world.head(lines, (f'proc {label} 0 0 - "="'.encode("ascii") for label in labels))
 
 
@@ -86,16 +86,14 @@ def crossing_call(player: Player, run: Run, label: str, after: int) -> int:
     """The number of the call that crosses a label, after the call with a number. A call without a record crosses no label."""
     asked = [call for call in run.calls[after:] if call.records]
 
-    class Crossed(Sequence):
-        """Whether the label is crossed up to each of the calls asked; once it is, it stays so."""
-
-        def __len__(self) -> int:
-            return len(asked)
-
-        def __getitem__(self, index: int) -> bool:
-            return crosses(player, run, label, asked[index])
-
-    return asked[bisect_left(Crossed(), True, 0, len(asked) - 1)].number
+    first, last = 0, len(asked) - 1  # once a label is crossed, it stays so
+    while first < last:
+        middle = (first + last) // 2
+        if crosses(player, run, label, asked[middle]):
+            last = middle
+        else:
+            first = middle + 1
+    return asked[first].number
 
 
 def seen_calls(run: Run, dominated: FrozenSet[str], replies: Sequence[bytes]) -> Iterator[int]:
@@ -119,7 +117,8 @@ def view_of(player: Player, run: Run, ranks: Ranks, label: str) -> View:
 
 def views_of(player: Player, run: Run, ranks: Ranks, labels: Sequence[str]) -> List[View]:
     """Plays what labels see, and gives it in the order of the labels; says how far it is where that is a terminal."""
-    effort, views = default_effort(), []
+    effort = default_effort()
+    views: List[View] = []
     ordered = sorted(labels, key=lambda label: ranks.order.get(label, -1))
     for view in effort.results(lambda label: view_of(player, run, ranks, label), ordered):
         views.append(view)
