@@ -42,7 +42,7 @@ QUESTIONS = {
                      f"3 where calls were found, 0 where none were, {STOPPED}"),
     "cuts": Question("cuts", "which single changes of the world have a call denied",
                      f"3 where a change was found, 0 where none was, {STOPPED}"),
-    "page": Question("page", "one page of HTML with the run of FILE", WRITTEN),
+    "page": Question("page", "one page of HTML with the run of FILE, or with two runs side by side", WRITTEN),
     "world": Question("world", "a world made from a directory", WRITTEN),
     "trace": Question("tracing", "script lines made from a log of strace", WRITTEN),
 }

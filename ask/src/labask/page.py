@@ -1,4 +1,4 @@
-"""The question `page`: one page of HTML with the run of a world. The page needs no network and no other file."""
+"""The question `page`: one page of HTML with the run of a world, or with two runs side by side. It needs no network and no other file."""
 import argparse
 import os
 import pathlib
@@ -7,7 +7,7 @@ import sys
 from typing import Iterator, List, Optional, Sequence
 
 from labask.answers import Status, WrongWords, write_json
-from labask.page_parts import one_run
+from labask.page_parts import one_run, two_runs
 from labask.page_parts.run import Run, play_run
 from labask.page_parts.side import MOST_VIEWS, Side, json_of, labels_of, make_side
 from labask.page_parts.views import named_labels
@@ -18,6 +18,7 @@ from labask.worlds import read_file, read_world
 def add_arguments(parser: argparse.ArgumentParser) -> None:
     """Adds the arguments of the question."""
     parser.add_argument("file", metavar="FILE", help="the world with its script; - is standard input")
+    parser.add_argument("other", metavar="OTHER", nargs="?", help="another world with its script: the page has both runs side by side")
     parser.add_argument("--output", metavar="PAGE.html", help="the file to write; standard output by default")
     parser.add_argument("--label", metavar="LABEL", action="append", default=[], dest="labels",
                         help="a label to see the run as; may be repeated. By default the labels that the world names, up to "
@@ -73,12 +74,15 @@ def sides_of(player: Player, files: Sequence[str], arguments: argparse.Namespace
 
 def answer(arguments: argparse.Namespace, player: Player) -> int:
     """Answers the question."""
-    files = [arguments.file]
+    files = [arguments.file] if arguments.other is None else [arguments.file, arguments.other]
+    if files == ["-", "-"]:
+        raise WrongWords("standard input is read once; name a file for the other run")
     for file in files if arguments.output is not None else ():
         refuse_same_file(file, arguments.output)
-    one = sides_of(player, files, arguments)[0]
+    one, *others = sides_of(player, files, arguments)
     if arguments.json:
-        write_json(json_of(one))
+        write_json(two_runs.json_of_two((one, others[0])) if others else json_of(one))
     else:
-        write_page("".join(one_run.page_of(player, one)), arguments.output)
+        page = two_runs.page_of(player, (one, others[0])) if others else one_run.page_of(player, one)
+        write_page("".join(page), arguments.output)
     return Status.DONE
