@@ -11,8 +11,6 @@ from hypothesis import HealthCheck, settings
 from labask.playing import Player
 
 sys.dont_write_bytecode = True
-# tests that are scripts still
-collect_ignore = [path.name for path in pathlib.Path(__file__).parent.glob("test_page*.py") if "__main__" in path.read_text("utf-8")]
 
 settings.register_profile("same", derandomize=True, database=None, deadline=None, print_blob=False,
                           suppress_health_check=[HealthCheck.too_slow, HealthCheck.filter_too_much, HealthCheck.data_too_large])
