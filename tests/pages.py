@@ -109,6 +109,11 @@ def status_of_script(function):
     return int(match_in("labsys", rf"^{function}\(\) \{{\n(?: [^\n]*\n)*? +exit (\d+)\n", f"function {function} with an exit")[1])
 
 
+def status_of_labask(name):
+    """The exit status of `labask` with a name."""
+    return int(match_in("ask/src/labask/answers.py", rf"^    {name} = (\d+)$", f"a status {name}")[1])
+
+
 def statuses_of_script():
     """Those of the program, and the one of the script besides."""
     return [*statuses(), str(status_of_script("give_up"))]
@@ -506,6 +511,10 @@ VALUES = {
     "CHUNK": lambda: constant("io_ends/src/whole.rt", "CHUNK"),
     "TIER": lambda: constant("fs_dirs/src/tiers.rt", "TIER"),
     "NoProgram": lambda: status_of_script("give_up"),
+    "AskNo": lambda: status_of_labask("NO"),
+    "AskYes": lambda: status_of_labask("YES"),
+    "AskStopped": lambda: status_of_labask("STOPPED"),
+    "AskNoProgram": lambda: status_of_labask("NO_PROGRAM"),
     "CALLS": lambda: len(calls()),
     "CAPABILITIES": lambda: len(capabilities()),
     "EDITS": lambda: len(list(CRATES.glob("*/must-fail/*.edit"))),
@@ -661,6 +670,13 @@ NUMBERS = [
     ("docs/FORMATS.md", "each read or write there fails, and the status is {ReadFault} or {WriteFault}"),
     ("docs/FORMATS.md", "with status {WriteFault} or {TrailFault}, and raises no signal"),
     ("docs/FORMATS.md", "with a value from 1 to {LINES}."),
+    ("docs/ASK.md", "| Question | Yes, {AskYes} | No, {AskNo} |"),
+    ("docs/ASK.md", "where that is not shown, the status is {AskStopped} |"),
+    ("docs/ASK.md", "The exit status is {AskYes} where a call that was asked about was denied or refused, {AskNo} where none was, and {AskStopped} where"),
+    ("docs/ASK.md", "where a reply is not as the model has it, that is said, with the status {AskNoProgram}."),
+    ("docs/ASK.md", "or by Ctrl-C. The status is {AskStopped} then."),
+    ("docs/ASK.md", "The exit status is {AskNo} whether the runs differ or not."),
+    ("docs/ASK.md", "The exit status is {AskYes} where a call is denied here or another difference is not known."),
     ("docs/FORMATS.md", "An input has at most {INPUT} bytes."),
     ("docs/FORMATS.md", "A line ends with a line feed and has at most {LINE} bytes before it"),
     ("docs/FORMATS.md", "1 to 10 decimal digits, leading zeros allowed, with a value of at most {NUMBER} |"),
