@@ -11,6 +11,7 @@ from labask.playing import Outcome, Player
 from labask.worlds import read_world
 
 DEPTH = 4
+STATES = 100_000  # more than `flow` looks at in these worlds, so that it stops at the depth alone
 
 
 def lines_of(world: RandomWorld, script: Sequence[Call]) -> List[str]:
@@ -49,7 +50,7 @@ def found_by_flow(world: RandomWorld, source: int, goal: Goal, player: Player) -
     """The calls that `labask flow` finds, none where it finds no script."""
     name = name_of(world, goal)
     asked = name if goal[0] == "process" else name.encode()
-    found = Flow(read_world(world.head.encode()), player, world.objects[source].path.encode(), asked).find(DEPTH)
+    found = Flow(read_world(world.head.encode()), player, world.objects[source].path.encode(), asked).find(DEPTH, STATES)
     return [call.text for call in found.calls] if found else []
 
 
