@@ -1,6 +1,7 @@
 """Fixtures of all tests of `labask`, and the settings of Hypothesis: each run makes the same worlds."""
 import os
 import pathlib
+import signal
 import sys
 import tempfile
 from typing import Iterator, Optional
@@ -11,6 +12,8 @@ from hypothesis import HealthCheck, settings
 from labask.playing import Player
 
 sys.dont_write_bytecode = True
+# what runs in the background of a shell ignores Ctrl-C, and so would each labask that a test starts
+signal.signal(signal.SIGINT, signal.default_int_handler)
 
 settings.register_profile("same", derandomize=True, database=None, deadline=None, print_blob=False,
                           suppress_health_check=[HealthCheck.too_slow, HealthCheck.filter_too_much, HealthCheck.data_too_large])

@@ -7,6 +7,7 @@ import subprocess
 import sys
 import threading
 import time
+from typing import Tuple
 
 import pytest
 from support import HERE, TOP, labask
@@ -107,6 +108,15 @@ def slow_labsys(folder: pathlib.Path, pause: float) -> pathlib.Path:
     return program
 
 
+def ended(run: "subprocess.Popen[bytes]") -> Tuple[bytes, bytes]:
+    """What a program writes until it ends. One that does not end is killed, and the test fails."""
+    try:
+        return run.communicate(timeout=120)
+    except subprocess.TimeoutExpired:
+        run.kill()
+        raise
+
+
 def interrupted(folder: pathlib.Path, pause: float, times: int):
     """The status, output and messages of `who` of many plays where Ctrl-C comes so many times while it plays."""
     world = folder / "world"
@@ -120,7 +130,7 @@ def interrupted(folder: pathlib.Path, pause: float, times: int):
         for _ in range(times):
             run.send_signal(signal.SIGINT)
             time.sleep(0.5)
-        out, said = run.communicate(timeout=120)
+        out, said = ended(run)
     return run.returncode, out.decode(), said.decode()
 
 
@@ -182,6 +192,6 @@ def test_an_interrupt_ends_what_was_started(tmp_path: pathlib.Path) -> None:
         while not started.exists() or not started.read_text(encoding="ascii"):
             time.sleep(0.05)
         run.send_signal(signal.SIGINT)
-        out, said = run.communicate(timeout=60)
+        out, said = ended(run)
     assert (run.returncode, out, said) == (4, b"", b"labask: stopped\n")
     assert not pathlib.Path("/proc", started.read_text(encoding="ascii").strip()).exists()
