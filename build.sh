@@ -104,6 +104,7 @@ build() {
     rm -rf "$room"
 }
 
+fill_descriptors
 for signal in HUP INT TERM; do
     # shellcheck disable=SC2064 # the name of this signal
     trap "stop $signal" "$signal"

@@ -325,20 +325,6 @@ class FirstUse(unittest.TestCase):
         self.assertIn(b"building", self.room.run("check").stderr)
         self.assertEqual(len(os.listdir(self.room.cache / "labsys")), 2)
 
-    def test_file_of_an_end_is_refused_before_a_build(self):
-        world, before = self.room.world, self.room.world.read_bytes()
-        link, other, odd = self.room.room / "link", self.room.room / "other name", self.room.room / "!"
-        link.symlink_to(world)
-        os.link(world, other)
-        os.link(world, odd)
-        for name in (world, "world.txt", link, other, "!"):
-            done = self.room.run("play", name)
-            self.assertEqual((done.returncode, done.stdout, done.stderr.count(b"\n")), (1, b"", 1), name)
-            self.assertIn(str(name).encode(), done.stderr)
-        done = self.room.run("play", world, stdin=subprocess.DEVNULL, stdout=world)
-        self.assertEqual(done.returncode, 1)
-        self.assertEqual(world.read_bytes(), before)
-
     def test_other_files_than_those_of_the_ends_are_played(self):
         self.assertTrue(self.room.is_built())
         self.plays()
@@ -358,14 +344,6 @@ class FirstUse(unittest.TestCase):
         self.assertEqual(done.returncode, 0)
         self.assertIn("trail 1", text)
         self.assertIn("done 1", text)
-
-    def test_closed_descriptors(self):
-        self.assertTrue(self.room.is_built())
-        for ends, status in (("<world.txt >&-", 4), ("<&-", 3), ("<world.txt 2>&-", 0), ("<world.txt >&- 2>&-", 4), ("<&- >&- 2>&-", 3)):
-            done = self.room.in_shell(f"% {ends}", "play", "trail")
-            self.assertEqual(done.returncode, status, (ends, done.stderr))
-            trail = self.room.room / "trail"
-            self.assertNotIn(b"done", trail.read_bytes() if trail.exists() else b"", ends)
 
     def test_closed_descriptors_of_a_first_use(self):
         self.room.has_rt()
@@ -391,8 +369,6 @@ class FirstUse(unittest.TestCase):
             self.assertTrue((root / f"usr/share/man/man1/{name}.1").exists())
         self.assertEqual(os.readlink(root / "usr/bin/labask"), "../libexec/ask/labask")
         subprocess.run([root / "usr/bin/labask", "flow", "--help"], check=True, stdout=subprocess.DEVNULL)
-        done = self.room.in_shell("root/usr/bin/labsys play trail <world.txt >&-")
-        self.assertEqual(done.returncode, 4)
 
     @unittest.skipUnless(shutil.which("make"), "make is not there")
     def test_uninstalled(self):

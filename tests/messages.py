@@ -69,6 +69,8 @@ FAULTS = [
     ("play trail < world >&-", 4, "labsys: write fault\nlabsys: standard output: Bad file descriptor (os error 9)\n"),
     ("play world < world", 1, "labsys: world is the file of standard input, and the trail would overwrite it\n"),
     ("sched ./world < world", 1, "labsys: ./world is the file of standard input, and the trail would overwrite it\n"),
+    ("play link < world", 1, "labsys: link is the file of standard input, and the trail would overwrite it\n"),
+    ("play other < world", 1, "labsys: other is the file of standard input, and the trail would overwrite it\n"),
     ("play out < world > out", 1, "labsys: out is the file of standard output, and the trail would overwrite it\n"),
     ("play /dev/null < world > /dev/null", 0, ""),
     ("play trail < world", 0, ""),
@@ -113,6 +115,8 @@ def main():
     with tempfile.TemporaryDirectory() as name:
         folder = pathlib.Path(name)
         (folder / "world").write_bytes(WORLD)
+        (folder / "link").symlink_to("world")
+        os.link(folder / "world", folder / "other")
         faults = [fault for check in (faults_of_words, faults_of_faults, faults_at_a_terminal) for fault in check(command, folder)]
     print("\n".join(faults), end="\n" if faults else "")
     sys.exit(1 if faults else 0)
