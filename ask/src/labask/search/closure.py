@@ -45,13 +45,13 @@ class Closure:
     """The closure of a problem: `facts` that can be, `steps` by which, and whether it was collected to its end.
 
     With a bound it has the steps that a script of so many calls can have. Without one a family counts as one who has all that any of
-    it can have: what is no fact then, can't be.
+    it can have: what is no fact then, can't be. A coarse one has the facts and steps of objects that are alike as those of one object.
     """
 
-    def __init__(self, problem: Problem, bound: Optional[int] = None, most: int = MOST_CREDENTIALS):
+    def __init__(self, problem: Problem, bound: Optional[int] = None, most: int = MOST_CREDENTIALS, coarse: bool = False):
         self.problem, self.state, self.most, self.whole = problem, problem.state, most, True
         self.merged, self.bound, self.rounds = bound is None, bound, 0
-        self.cast = Cast(problem)
+        self.cast = Cast(problem, coarse)
         self.facts: Set[Fact] = set()
         self.steps: Dict[Any, Step] = {}
         self.values: DefaultDict[Tuple[str, int], List[Any]] = defaultdict(list)
@@ -74,8 +74,9 @@ class Closure:
         self.versions: DefaultDict[int, int] = defaultdict(int)
         self.changed: Set[int] = set()
         self.renew: Set[int] = set()
-        self.asked: Set[Fact] = set()
+        self.asked: Dict[Fact, None] = {}
         self.last_entered: Dict[Tuple[int, int], Set[int]] = {}
+        self.inside_at_start: DefaultDict[int, Set[int]] = defaultdict(set)
         self.users, self.groups, self.labels = self.choices()
 
     def choices(self) -> Tuple[List[int], List[int], List[Label]]:
@@ -160,6 +161,7 @@ class Closure:
             for number in numbers:
                 for directory, _ in state.spots.get(number, ()):
                     self.births[item].add(cast.item_of[directory])
+                    self.inside_at_start[cast.item_of[directory]].add(item)
                     yield (ENTRY, cast.item_of[directory], item)
         if self.problem.source is not None:
             yield (TAINT, cast.item_of[self.problem.source])
@@ -332,7 +334,7 @@ class Closure:
             while waiting:
                 directory = waiting.pop()
                 if self.enters_at_start(self.views[view], self.state.things[self.cast.items[directory][0]]):
-                    inside = {self.cast.item_of[number] for number in self.state.names.get(self.cast.items[directory][0], {}).values()}
+                    inside = self.inside_at_start[directory]
                     waiting += [item for item in inside if self.cast.kinds[item] is Kind.DIRECTORY]
                     found |= inside
             self.starts[view] = found
@@ -368,7 +370,7 @@ class Closure:
         self.last_entered = {}
         done: Set[Fact] = set()
         while len(done) < len(self.asked):
-            for fact in self.asked - done:
+            for fact in [each for each in self.asked if each not in done]:
                 done.add(fact)
                 how = {CAN: self.can_steps, GOT: self.got_steps, IN: self.in_steps}[fact[0]](fact)
                 for count, needs in enumerate(how):
@@ -377,7 +379,7 @@ class Closure:
 
     def need(self, fact: Fact) -> Fact:
         """Notes a fact that follows without a call, and is needed."""
-        self.asked.add(fact)
+        self.asked[fact] = None
         return fact
 
     def entered_at_last(self, family: int, view: int) -> Set[int]:
@@ -455,6 +457,7 @@ class Actor:
         self.acts: Fact = (ACTS, family, one)
         self.seen: Fact = (AS, family, self.view)
         self.kinds = closure.cast.kinds
+        self.needs_of: Dict[Tuple[int, bool], List[Fact]] = {}
 
     def step(self, words: Tuple[Any, ...], needs: Any, makes: Any) -> Step:
         """A call of one who is judged so."""
@@ -697,7 +700,15 @@ class Actor:
 
     def written(self, directory: int) -> List[Fact]:
         """The facts that writing a directory needs."""
-        return [self.inside(directory), *self.conditions(directory, MARK, WRITE)]
+        if (directory, True) not in self.needs_of:
+            self.needs_of[directory, True] = [self.inside(directory), *self.conditions(directory, MARK, WRITE)]
+        return self.needs_of[directory, True]
+
+    def marked(self, item: int) -> List[Fact]:
+        """The facts that changing an object needs."""
+        if (item, False) not in self.needs_of:
+            self.needs_of[item, False] = self.conditions(item, MARK)
+        return self.needs_of[item, False]
 
     def making(self, directory: int) -> Iterator[Step]:
         """Making an object in a directory, and taking names of the path TO away."""
@@ -747,27 +758,34 @@ class Actor:
     def fits(self, item: int, directory: int) -> bool:
         """Whether some label of an object dominates one of a directory."""
         labels = self.all.values[LABEL, directory]
-        return item != directory and any(one.dominates(other) for one in self.all.values[LABEL, item] for other in labels)
+        other = item != directory or len(self.all.cast.items[item]) > 1
+        return other and any(one.dominates(other) for one in self.all.values[LABEL, item] for other in labels)
 
     def linking(self, item: int, directory: int) -> Iterator[Step]:
         """Linking an object into a directory."""
-        needs = [self.got(item), *self.conditions(item, MARK), *self.written(directory)]
-        if self.all.is_moved(item, directory) and self.due("free"):
+        names, moved = self.all.taken_names(directory, item), self.due("free") and self.all.is_moved(item, directory)
+        if not names and not moved:
+            return
+        needs = [self.got(item), *self.marked(item), *self.written(directory)]
+        if moved:
             yield self.step(("link", item, directory, None), needs, [(ENTRY, directory, item)])
-        for name in self.all.taken_names(directory, item):
+        for name in names:
             makes = [(ENTRY, directory, item), (AT, directory, name, item)]
             yield self.step(("link", item, directory, name), [*needs, (FREE, directory, name)], makes)
 
     def renaming(self, item: int, directory: int) -> Iterator[Step]:
         """Moving an object into a directory."""
+        names, moved = self.all.taken_names(directory, item), self.due("free") and self.all.is_moved(item, directory)
+        if not names and not moved:
+            return
         olds = self.all.values[ENTRY, item] if self.kinds[item] is Kind.DIRECTORY else sorted(self.all.births[item])
         for old in olds:
             if old not in self.entered or not self.can(old, MARK, WRITE):
                 continue
-            needs = [*self.written(old), (ENTRY, old, item), *self.conditions(item, MARK), *self.written(directory)]
-            if self.kinds[item] is Kind.DIRECTORY and old != directory and self.all.is_moved(item, directory) and self.due("free"):
+            needs = [*self.written(old), (ENTRY, old, item), *self.marked(item), *self.written(directory)]
+            if self.kinds[item] is Kind.DIRECTORY and old != directory and moved:
                 yield self.step(("rename", old, item, directory, None), needs, [(ENTRY, directory, item)])
-            for name in self.all.taken_names(directory, item):
+            for name in names:
                 yield from self.replacing(item, old, directory, name, needs)
 
     def replacing(self, item: int, old: int, directory: int, name: bytes, needs: List[Fact]) -> Iterator[Step]:
@@ -778,7 +796,7 @@ class Actor:
         for target in self.all.at[directory, name][:1]:
             alike = (self.kinds[target] is Kind.DIRECTORY) == (self.kinds[item] is Kind.DIRECTORY)
             if target != item and alike and self.all.is_replaced(target) and self.can(target, MARK):
-                more = [(AT, directory, name, target), *self.conditions(target, MARK)]
+                more = [(AT, directory, name, target), *self.marked(target)]
                 yield self.step(("rename over", old, item, directory, name, target), [*needs, *more], makes)
 
 

@@ -3,7 +3,7 @@
 The bound is that of landmark cuts: again and again, a set of steps is found of which every script needs one.
 """
 from collections import deque
-from typing import Deque, Dict, Iterable, List, NamedTuple, Optional, Sequence, Tuple
+from typing import Deque, Dict, Iterable, List, NamedTuple, Sequence, Tuple
 
 from labask.search.facts import GOAL, TRUE, Fact, Step
 
@@ -73,19 +73,19 @@ class Task:
                 else:
                     waiting.appendleft((cost, made))
 
-    def left(self, goal: Optional[int] = None) -> List[int]:
-        """How many calls are left at least to the goal where a fact is used, for each fact."""
+    def left(self, costs: Sequence[int]) -> List[int]:
+        """What is left at least to the goal where a fact is used, for each fact."""
         found = [NEVER] * len(self.numbers)
         found[1] = 0
         waiting: Deque[int] = deque([1])
         while waiting:
             fact = waiting.popleft()
             for step in self.made[fact]:
-                cost = found[fact] + self.costs[step]
+                cost = found[fact] + costs[step]
                 for need in self.needs[step]:
                     if cost < found[need]:
                         found[need] = cost
-                        if self.costs[step]:
+                        if costs[step]:
                             waiting.append(need)
                         else:
                             waiting.appendleft(need)
@@ -95,16 +95,33 @@ class Task:
 
     def bound(self, first: Sequence[int], reached: Reached, most: int) -> int:
         """The bound from these facts, or any number above `most` where it is higher."""
-        costs, value = list(self.costs), 0
+        return self.cuts(first, reached, list(self.costs), most)[0]
+
+    def cuts(self, first: Sequence[int], reached: Reached, costs: List[int], most: int) -> Tuple[int, Reached]:
+        """The bound as above, and what all costs beside it; it takes what it counts off these costs."""
+        value = 0
         while reached.facts[1]:
             if reached.facts[1] >= NEVER or value + reached.facts[1] > most:
-                return value + reached.facts[1]
+                return value + reached.facts[1], reached
             cut = self.cut(first, reached, costs)
             value += 1
             for step in cut:
                 costs[step] -= 1
             reached = self.reach(first, costs)
-        return value
+        return value, reached
+
+    def through(self, first: Sequence[int], most: int) -> List[int]:
+        """For each step, how many calls a script has at least that has the step, or any number above `most` where it is more.
+
+        The bound counts some calls once for every script; what the step costs beside them comes to it.
+        """
+        costs = list(self.costs)
+        value, reached = self.cuts(first, self.reach(first, costs), costs, most)
+        if value > most:
+            return [value] * len(costs)
+        left = self.left(costs)
+        return [value + before + cost + min(left[made] for made in makes)
+                for before, cost, makes in zip(reached.steps, costs, self.makes)]
 
     def cut(self, first: Sequence[int], reached: Reached, costs: Sequence[int]) -> List[int]:
         """Steps of which one is needed: those that lead into what is next to the goal without cost."""

@@ -1,20 +1,22 @@
 """Looks for a shortest script in the states of the model."""
 import enum
-from dataclasses import dataclass, field
+from dataclasses import dataclass
 from typing import Any, Callable, Dict, FrozenSet, Iterator, List, NamedTuple, Optional, Sequence, Tuple
 
 from labask.kernel import rules
 from labask.kernel.calls import MOST_FILE_BYTES, Call, Path, play
-from labask.kernel.state import Caps, Kind, Number, Process, State, Thing
+from labask.kernel.state import Kind, Number, Process, State, Thing
 from labask.search.closure import Closure, most_of
-from labask.search.costs import NEVER, Reached, Task
+from labask.search.costs import Task
 from labask.search.facts import (ACTS, AS, AT, CWD, ENTRY, FREE, GOAL, HEARD, HOLDS, MANY, ON_PATH, OPENED, TAINT, TRUE, UMASK, Fact, Step,
                                  credentials_of, one)
-from labask.search.problem import MARK, Made, Problem
+from labask.search.problem import MARK, MOST_ALIKE, Made, Problem
+from labask.search.slicing import kept_steps, sliced
 
 STEPS_FOR_A_STATE = 50  # as many steps may be collected for each state that may be looked at
-PROVED_FROM = 4  # calls from which on it is asked first whether a script of any length is there; shorter ones are found sooner
-MOST_ALIKE = 3  # objects that are alike in all but name and content of which a script uses as many
+# The calls from which on it is asked first whether a script of any length is there, and whether objects that are alike count as one
+# then; shorter scripts are found sooner.
+PROVED_FROM = {4: True, 6: False}
 
 
 class Ending(enum.Enum):
@@ -64,9 +66,11 @@ class Search:
     """A search. `accepts` says of a script that leads to the goal whether it is the one; `over` whether the time is over."""
 
     def __init__(self, problem: Problem, accepts: Callable[[Tuple[Line, ...]], bool], over: Callable[[], bool], most_states: int):
-        self.problem, self.accepts, self.over, self.most = problem, accepts, over, most_states
+        self.whole = self.problem = problem
+        self.accepts, self.over, self.most = accepts, over, most_states
         self.closure = Closure(problem)
         self.cast = self.closure.cast
+        self.collected = True
         self.numbers: Dict[Any, int] = {}
         self.seen = 0
         self.bound = 0
@@ -78,7 +82,7 @@ class Search:
     def find(self, depth: int) -> Result:
         """Looks for a script of at most so many calls."""
         for bound in range(1, depth + 1):
-            if bound == PROVED_FROM and self.is_never():
+            if bound in PROVED_FROM and self.is_never(PROVED_FROM[bound]):
                 return Result(Ending.NEVER)
             if self.over():
                 return self.result(Ending.TIME, bound - 1)
@@ -88,24 +92,39 @@ class Search:
                 return self.result(stop.ending, bound - 1)
             if script is not None:
                 return self.result(Ending.FOUND, bound - 1, script)
-        if depth < PROVED_FROM and self.is_never():
+        if any(self.is_never(coarse) for bound, coarse in PROVED_FROM.items() if bound > depth):
             return Result(Ending.NEVER)
         return self.result(Ending.DEPTH, depth)
 
-    def is_never(self) -> bool:
-        """Whether no script of any length leads to the goal."""
-        merged = Closure(self.problem).begin().collect(self.over)
+    def is_never(self, coarse: bool) -> bool:
+        """Whether no script of any length leads to the goal; a coarse closure is collected sooner, and shows it less often."""
+        merged = Closure(self.whole, coarse=coarse).begin().collect(self.over)
         return merged.whole and GOAL not in merged.facts
 
     def result(self, ending: Ending, excluded: int, script: Tuple[Line, ...] = ()) -> Result:
         """How the search ended."""
-        if not self.closure.whole and ending is Ending.DEPTH:
+        if not self.collected and ending is Ending.DEPTH:
             ending = Ending.STATES
-        return Result(ending, script, excluded, self.seen, self.closure.whole)
+        return Result(ending, script, excluded, self.seen, self.collected)
 
     def look_within(self, bound: int) -> Optional[Tuple[Line, ...]]:
         """A script of so many calls."""
-        self.closure = Closure(self.problem, bound).begin()
+        self.bound, self.failed, self.tasks = bound, {}, {}
+        self.problem = self.whole
+        coarse = self.collect(bound, True)
+        self.kept = kept_steps(coarse.steps.values(), self.facts(self.first_node()), bound)
+        if not self.kept:
+            return None
+        self.problem = sliced(self.whole, self.cast, [step for _, step in self.kept])
+        closure = self.collect(bound, False)
+        self.kept = kept_steps(closure.steps.values(), self.facts(self.first_node()), bound)
+        families = {step.family for _, step in self.kept if step.cost}
+        self.forks = [step for step in closure.steps.values() if step.words == ("fork",) and step.family in families]
+        return self.look(self.first_node(), bound, ()) if self.kept else None
+
+    def collect(self, bound: int, coarse: bool) -> Closure:
+        """The closure of scripts of so many calls."""
+        self.closure = Closure(self.problem, bound, coarse=coarse).begin()
         self.cast, self.numbers = self.closure.cast, {}
         for _ in range(bound):
             if not self.closure.advance(self.over):
@@ -113,22 +132,8 @@ class Search:
             if len(self.closure.steps) > STEPS_FOR_A_STATE * self.most:
                 raise StopSearch(Ending.STATES)
         self.closure.derive()
-        whole, first = Task(list(self.closure.steps.values())), self.first_node()
-        start = whole.known(self.facts(first))
-        reached = whole.reach(start, whole.costs)
-        if reached.facts[1] > bound:
-            return None
-        self.narrow(whole, reached, whole.left(), bound)
-        return self.look(first, bound, ())
-
-    def narrow(self, whole: Task, reached: Reached, left: Sequence[int], bound: int) -> None:
-        """Keeps the steps that a script of so many calls can have."""
-        self.bound, self.failed = bound, {}
-        self.kept = [(step.cost + min(left[made] for made in whole.makes[at]), step) for at, step in enumerate(whole.given)
-                     if reached.steps[at] + step.cost + min(left[made] for made in whole.makes[at]) <= bound]
-        self.tasks = {}
-        families = {step.family for _, step in self.kept if step.cost}
-        self.forks = [step for step in whole.given if step.words == ("fork",) and step.family in families]
+        self.collected = self.collected and self.closure.whole
+        return self.closure
 
     def task_of(self, left: int) -> Task:
         """The steps of which so many calls, with those that follow them at least, can be the rest of a script."""

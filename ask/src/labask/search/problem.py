@@ -1,11 +1,12 @@
 """What is asked of a search: the first state, whose bytes are followed, and where they should get."""
 from dataclasses import dataclass, field
-from typing import Any, Dict, FrozenSet, List, NamedTuple, Optional, Tuple
+from typing import Any, Dict, FrozenSet, List, NamedTuple, Optional, Set, Tuple
 
 from labask.kernel.state import Kind, Label, Number, State, Thing
 from labask.search.facts import Credentials, Values, credentials_of
 
 MARK = b"\0the bytes that are followed\0"  # stands for them in the model, where no other object has it
+MOST_ALIKE = 3  # objects that are alike in all but name and content of which a script uses as many
 
 
 @dataclass(frozen=True)
@@ -22,6 +23,21 @@ class Problem:
     knows: Optional[Number] = None
     program: Optional[Number] = None
 
+    def kept(self) -> Set[Number]:
+        """The objects that are like no other one: those that are asked for, and the directories above them and on the path TO."""
+        waiting = [self.state.root, *(each for each in (self.source, self.thing, self.program) if each is not None)]
+        here: Optional[Number] = self.state.root
+        for name in self.names:
+            here = self.state.names.get(here, {}).get(name) if here is not None else None
+            waiting += [here] if here is not None else []
+        found: Set[Number] = set()
+        while waiting:
+            number = waiting.pop()
+            if number not in found:
+                found.add(number)
+                waiting += [directory for directory, _ in self.state.spots.get(number, ())]
+        return found
+
 
 class Made(NamedTuple):
     """What objects that a script makes are told apart by: their kind, first label, owner and group; of a pipe the family."""
@@ -34,8 +50,12 @@ class Made(NamedTuple):
 
 @dataclass
 class Cast:
-    """Who acts and on what. Processes that are alike are one family, and files that are alike in all but name and content one item."""
+    """Who acts and on what. Processes that are alike are one family, and files that are alike in all but name and content one item.
+
+    A coarse one has as one item the directories too that are alike in all but name, in directories that are one item.
+    """
     problem: Problem
+    coarse: bool = False
     families: List[List[Number]] = field(default_factory=list)
     family_of: Dict[Number, int] = field(default_factory=dict)
     items: List[List[Number]] = field(default_factory=list)
@@ -53,8 +73,9 @@ class Cast:
             self.families[families[key]].append(number)
             self.family_of[number] = families[key]
         items: Dict[Any, int] = {}
+        kept = self.problem.kept()
         for number, thing in self.problem.state.things.items():
-            key = self.likeness(number, thing)
+            key = number if number in kept else self.likeness(number, thing)
             if key not in items:
                 items[key] = self.new_item(thing.kind)
             self.items[items[key]].append(number)
@@ -62,10 +83,9 @@ class Cast:
 
     def likeness(self, number: Number, thing: Thing) -> Any:
         """What objects are equal in that are one item."""
-        kept = (self.problem.source, self.problem.thing, self.problem.program)
-        if thing.kind is Kind.DIRECTORY or number in kept:
+        if thing.kind is Kind.DIRECTORY and not self.coarse:
             return number
-        return (self.problem.state.spots[number][0][0], thing._replace(content=b""))
+        return (self.item_of[self.problem.state.spots[number][0][0]], thing._replace(content=b""))
 
     def new_item(self, kind: Kind) -> int:
         """One more item."""
