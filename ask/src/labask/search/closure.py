@@ -748,12 +748,18 @@ class Actor:
         if not self.due("move"):
             return
         for item in named:
-            if not (self.in_focus(item) or self.in_focus(directory)) or not self.can(item, MARK) or not self.fits(item, directory):
+            if self.is_known(item, directory) or not (self.in_focus(item) or self.in_focus(directory)):
+                continue
+            if not self.can(item, MARK) or not self.fits(item, directory):
                 continue
             if self.kinds[item] is not Kind.DIRECTORY:
                 yield from self.linking(item, directory)
             if self.kinds[item] is Kind.DIRECTORY or self.all.taken_names(directory, item):
                 yield from self.renaming(item, directory)
+
+    def is_known(self, item: int, directory: int) -> bool:
+        """Whether nothing new comes of moves of an object into a directory, where facts alone are asked for and no steps."""
+        return self.all.merged and not self.all.names[directory] and (ENTRY, directory, item) in self.all.facts
 
     def fits(self, item: int, directory: int) -> bool:
         """Whether some label of an object dominates one of a directory."""
