@@ -671,7 +671,7 @@ NUMBERS = [
     ("docs/FORMATS.md", "with status {WriteFault} or {TrailFault}, and raises no signal"),
     ("docs/FORMATS.md", "with a value from 1 to {LINES}."),
     ("docs/ASK.md", "| Question | Yes, {AskYes} | No, {AskNo} |"),
-    ("docs/ASK.md", "where that is not shown, the status is {AskStopped} |"),
+    ("docs/ASK.md", "by the model; where that is not shown, the status is {AskStopped} |"),
     ("docs/ASK.md", "The exit status is {AskYes} where a call that was asked about was denied or refused, {AskNo} where none was, and {AskStopped} where"),
     ("docs/ASK.md", "where a reply is not as the model has it, that is said, with the status {AskNoProgram}."),
     ("docs/ASK.md", "or by Ctrl-C. The status is {AskStopped} then."),

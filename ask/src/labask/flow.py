@@ -284,16 +284,24 @@ SHORT = {Ending.NEVER: "never", Ending.DEPTH: "not found, the depth was reached"
          Ending.TIME: "stopped at the time", Ending.FOUND: "not found"}
 
 
+def shortest(answer: Answer) -> str:
+    """Whether the script that was found is a shortest one."""
+    if answer.found is not None and answer.result.excluded >= len(answer.found.calls) - 1:
+        return "No script of fewer calls of the kinds that are looked for does it, by labask's model."
+    return "Scripts of fewer calls were not all tried."
+
+
 def why_stopped(answer: Answer, limits: Limits) -> str:
     """How a search ended that found nothing."""
-    result, excluded = answer.result, f"No script has at most {answer.result.excluded} calls; longer ones were not all tried."
+    result = answer.result
+    excluded = f"No script has at most {result.excluded} calls; longer ones were not all tried." if result.excluded else "Not all were tried."
     if result.ending is Ending.NEVER:
         return "No script of any length of the calls below does it, by the rules of labask's model of labsys."
     if result.ending is Ending.DEPTH:
         return f"Stopped at the depth: no script has at most {limits.depth} calls, and longer ones were not tried (--depth)."
     if result.ending is Ending.TIME:
         return f"Stopped at the time (--time). {excluded}"
-    return f"Stopped at {result.seen} states (--states {limits.states}). {excluded}"
+    return f"Stopped at the limits of the search, after {result.seen} states (--states {limits.states}). {excluded}"
 
 
 def report(answer: Answer, limits: Limits, without: Sequence[str]) -> Iterator[str]:
@@ -308,7 +316,7 @@ def report(answer: Answer, limits: Limits, without: Sequence[str]) -> Iterator[s
         return
     yield f"# The bytes of {source} get to {goal} by {len(found.calls)} calls:"
     yield from table([[call.text, call.reply, call.means] for call in found.calls], "#   ")
-    yield f"# No script of fewer calls of the kinds that are looked for does it, by labask's model. {PLAYED}"
+    yield f"# {shortest(answer)} {PLAYED}"
     yield "# This is a world to play it in:"
     yield found.world.decode("latin-1").rstrip("\n")
 

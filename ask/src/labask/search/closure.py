@@ -48,8 +48,8 @@ class Closure:
     it can have: what is no fact then, can't be. A coarse one has the facts and steps of objects that are alike as those of one object.
     """
 
-    def __init__(self, problem: Problem, bound: Optional[int] = None, most: int = MOST_CREDENTIALS, coarse: bool = False):
-        self.problem, self.state, self.most, self.whole = problem, problem.state, most, True
+    def __init__(self, problem: Problem, bound: Optional[int] = None, coarse: bool = False):
+        self.problem, self.state, self.whole = problem, problem.state, True
         self.merged, self.bound, self.rounds = bound is None, bound, 0
         self.cast = Cast(problem, coarse)
         self.facts: Set[Fact] = set()
@@ -536,7 +536,7 @@ class Actor:
             new = mine.joined(new)
         if new._replace(caps=mine.caps) == mine and is_less(new.caps, mine.caps):
             return
-        if new not in self.all.numbers and len(self.all.credentials) >= self.all.most:
+        if new not in self.all.numbers and len(self.all.credentials) >= MOST_CREDENTIALS:
             self.all.whole = False
             return
         number = self.all.number(new)

@@ -46,12 +46,11 @@ class Node:
 
 @dataclass
 class Result:
-    """How a search ended: the script, if one was found; how many calls every script has that was not excluded; and how much was seen."""
+    """How a search ended: the script, if one was found; up to how many calls no script does it; and how many states were seen."""
     ending: Ending
     script: Tuple[Line, ...] = ()
     excluded: int = 0
     seen: int = 0
-    whole: bool = True
 
 
 class StopSearch(Exception):
@@ -71,6 +70,7 @@ class Search:
         self.closure = Closure(problem)
         self.cast = self.closure.cast
         self.collected = True
+        self.excluded = 0
         self.numbers: Dict[Any, int] = {}
         self.seen = 0
         self.bound = 0
@@ -85,27 +85,29 @@ class Search:
             if bound in PROVED_FROM and self.is_never(PROVED_FROM[bound]):
                 return Result(Ending.NEVER)
             if self.over():
-                return self.result(Ending.TIME, bound - 1)
+                return self.result(Ending.TIME)
             try:
                 script = self.look_within(bound)
             except StopSearch as stop:
-                return self.result(stop.ending, bound - 1)
+                return self.result(stop.ending)
             if script is not None:
-                return self.result(Ending.FOUND, bound - 1, script)
+                return self.result(Ending.FOUND, script)
+            if self.collected:
+                self.excluded = bound
         if any(self.is_never(coarse) for bound, coarse in PROVED_FROM.items() if bound > depth):
             return Result(Ending.NEVER)
-        return self.result(Ending.DEPTH, depth)
+        return self.result(Ending.DEPTH)
 
     def is_never(self, coarse: bool) -> bool:
         """Whether no script of any length leads to the goal; a coarse closure is collected sooner, and shows it less often."""
         merged = Closure(self.whole, coarse=coarse).begin().collect(self.over)
         return merged.whole and GOAL not in merged.facts
 
-    def result(self, ending: Ending, excluded: int, script: Tuple[Line, ...] = ()) -> Result:
-        """How the search ended."""
+    def result(self, ending: Ending, script: Tuple[Line, ...] = ()) -> Result:
+        """How the search ended. Where a closure was cut at its limit, no script of so many calls is excluded, nor a longer one."""
         if not self.collected and ending is Ending.DEPTH:
             ending = Ending.STATES
-        return Result(ending, script, excluded, self.seen, self.collected)
+        return Result(ending, script, self.excluded, self.seen)
 
     def look_within(self, bound: int) -> Optional[Tuple[Line, ...]]:
         """A script of so many calls."""
