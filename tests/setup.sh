@@ -17,13 +17,22 @@ get() {
         </dev/null >/dev/null 2>&1
 }
 
+# Installs packages one by one, so that one which can't be installed keeps no other back.
+each() {
+    for package in "$@"; do
+        get install --no-install-recommends "$package"
+    done
+}
+
 lacking=$(missing)
 [ -n "$lacking" ] || exit 0
 export DEBIAN_FRONTEND=noninteractive
 if [ "$(id -u)" = 0 ] && command -v apt-get >/dev/null && command -v dpkg-query >/dev/null; then
-    get update
+    # one by one only where the archive answers, so that a machine without a network does not wait for each package
+    answers=yes
+    get update || answers=no
     # shellcheck disable=SC2086  # words of their own
-    get install --no-install-recommends $lacking || for package in $lacking; do get install --no-install-recommends "$package"; done
+    get install --no-install-recommends $lacking || [ "$answers" = no ] || each $lacking
     lacking=$(missing)
 fi
 [ -z "$lacking" ] || echo "tests/setup.sh: not installed here: ${lacking% }; tests that use them are skipped"
