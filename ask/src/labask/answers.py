@@ -48,23 +48,3 @@ def show_table(rows: Iterable[Sequence[str]], style: Callable[[str], str] = plai
     rows = list(rows)
     if not show_rich_table(rows, style):
         print("\n".join(table(rows)))
-
-
-class Progress:
-    """Says on standard error how far a question is, where that is a terminal."""
-
-    def __init__(self, what: str, total: int):
-        self.what, self.total, self.shown = what, total, -1
-        self.terminal = sys.stderr.isatty()
-
-    def reached(self, count: int) -> None:
-        """Shows that `count` of the total are done, at most once for each hundredth."""
-        share = 100 * count // max(1, self.total)
-        if self.terminal and share != self.shown:
-            self.shown = share
-            print(f"\rlabask: {self.what}: {share} %", end="", file=sys.stderr, flush=True)
-
-    def end(self) -> None:
-        """Takes the line away."""
-        if self.terminal and self.shown >= 0:
-            print("\r\x1b[K", end="", file=sys.stderr, flush=True)
