@@ -1,0 +1,5 @@
+pub mod Meets
+pub mod Rows
+pub mod States
+pub mod Kept
+pub mod Absent
