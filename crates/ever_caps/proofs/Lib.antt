@@ -3,3 +3,4 @@ pub mod Rows
 pub mod States
 pub mod Kept
 pub mod Absent
+pub mod Ever

@@ -1,0 +1,32 @@
+-- The capabilities that a process may ever have in a world.
+use Rattle.std.specs.Prelude.{Bool, List, [], ◌∷◌}
+use Rattle.cap_bits.specs.CapSet.{CapSet, is_within, meet_of, no_caps, union_of, with_cap}
+use Rattle.cap_bits.specs.FileCaps.{shown}
+use Rattle.cap_bits.specs.State.{no_flags}
+use Rattle.cap_bits.specs.declared.cap.Cap.TheVariants as cap
+use Rattle.cap_bits.specs.declared.state.CapState.{CapState}
+use Rattle.kern_model.specs.declared.world.World.{World}
+use Rattle.kern_model.specs.declared.world.WorldObject.{WorldObject}
+use Rattle.kern_model.specs.declared.world.WorldProc.{WorldProc}
+use Rattle.kern_model.specs.Exec.{exec_permitted}
+
+-- two states together: each set has what either has in it
+abbrev pub join : CapState → CapState → CapState
+join a b = record { e = union_of a.e b.e; i = union_of a.i b.i; p = union_of a.p b.p }
+
+-- the states of all of these together
+abbrev pub joined : {X : Type 0} → (X → CapState) → List X → CapState
+joined f [] = no_flags
+joined f (x ∷ xs) = join (f x) (joined f xs)
+
+-- what all processes have together
+abbrev pub all_processes : World → CapState
+all_processes w = joined (λ (p : WorldProc). p.caps) w.procs
+
+-- what all files have together
+abbrev pub all_files : World → CapState
+all_files w = joined (λ (o : WorldObject). shown o.attr.caps) w.objects
+
+-- what some process has effective or permitted, and what one program with the sets of all files would give to one process with the sets of all processes
+abbrev pub ever : World → CapSet
+ever w = union_of (union_of (all_processes w).e (all_processes w).p) (exec_permitted (all_processes w) (all_files w) w.bound)
