@@ -4,3 +4,4 @@ pub mod States
 pub mod Kept
 pub mod Absent
 pub mod Ever
+pub mod ConfinedRuns

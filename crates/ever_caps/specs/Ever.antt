@@ -30,3 +30,24 @@ all_files w = joined (λ (o : WorldObject). shown o.attr.caps) w.objects
 -- what some process has effective or permitted, and what one program with the sets of all files would give to one process with the sets of all processes
 abbrev pub ever : World → CapSet
 ever w = union_of (union_of (all_processes w).e (all_processes w).p) (exec_permitted (all_processes w) (all_files w) w.bound)
+
+-- ---- the five capabilities that override the rules on labels
+
+abbrev pub mac_caps : CapSet
+mac_caps = with_cap (with_cap (with_cap (with_cap (with_cap no_caps cap.MacDowngrade) cap.MacRead) cap.MacRelabelSubj) cap.MacUpgrade) cap.MacWrite
+
+-- those of the five that a process has effective or permitted
+abbrev pub mac_held : WorldProc → CapSet
+mac_held p = meet_of mac_caps (union_of p.caps.e p.caps.p)
+
+-- those of the five that a file gives to some process or other, by the exec formula
+abbrev pub mac_given : World → WorldObject → CapSet
+mac_given w o = meet_of mac_caps (exec_permitted (all_processes w) (shown o.attr.caps) w.bound)
+
+-- those of the five that a process may ever have
+abbrev pub mac_ever : World → CapSet
+mac_ever w = meet_of mac_caps (ever w)
+
+-- whether no process may ever have one of the five
+abbrev pub is_confined : World → Bool
+is_confined w = is_within (mac_ever w) no_caps

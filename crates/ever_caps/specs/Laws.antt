@@ -17,7 +17,7 @@ use Rattle.kern_model.specs.Step.{step}
 use Rattle.kern_model.specs.World.{IsWorld}
 use Rattle.iso_laws.specs.Unnamed.{IsUnnamed}
 use Rattle.ever_caps.specs.Absent.{IsAbsent}
-use Rattle.ever_caps.specs.Ever.{ever}
+use Rattle.ever_caps.specs.Ever.{ever, is_confined}
 
 -- ---- a step, of every state and for every call
 
@@ -42,3 +42,20 @@ NeverEnd = (c : Cap) (w : World) (items : List ScriptItem) → has (ever w) c �
 -- and no record of a run is an exercise of it
 abbrev pub NeverExercised : Type 0
 NeverExercised = (c : Cap) (w : World) (items : List ScriptItem) → has (ever w) c ≡ false → IsUnnamed c (all_recs w items)
+
+-- ---- worlds in which no process may ever have one of the five capabilities over labels
+
+-- no record of a run crosses a label
+abbrev pub ConfinedInside : Type 0
+ConfinedInside = (l : Label) (w : World) (items : List ScriptItem) → is_confined w ≡ true → any_crosses l (all_recs w items) ≡ false
+
+-- what Low tags are answered is what they are answered in the part alone
+abbrev pub ConfinedAlone : Type 0
+ConfinedAlone = (l : Label) (w : World) (items : List ScriptItem) → IsWorld w → is_script w.top items ≡ true → is_confined w ≡ true
+    → answers l (run (boot w) items) ≡ alone l w items
+
+-- two such worlds with the same part answer Low tags alike in two scripts with the same Low items
+abbrev pub ConfinedWorlds : Type 0
+ConfinedWorlds = (l : Label) (w v : World) (is js : List ScriptItem) → IsWorld w → IsWorld v → is_script w.top is ≡ true → is_script v.top js ≡ true
+    → part l (boot w) ≡ part l (boot v) → part_script l is ≡ part_script l js → is_confined w ≡ true → is_confined v ≡ true
+    → answers l (run (boot w) is) ≡ answers l (run (boot v) js)

@@ -1,7 +1,11 @@
 //! Capabilities that no process can ever have, from the sets of a world alone.
+//!
+//! By the capabilities over labels are meant the five that override the rules on them: `cap_mac_downgrade`, `cap_mac_read`,
+//! `cap_mac_relabel_subj`, `cap_mac_upgrade` and `cap_mac_write`. Each law is stated in `specs/Laws.antt`.
 #![tactic(auto)]
 
 ghost use Rattle.ever_caps.specs.Laws.{AbsentStep, AbsentUnnamed, NeverBoot, NeverEnd, NeverExercised};
+ghost use Rattle.ever_caps.specs.Laws.{ConfinedAlone, ConfinedInside, ConfinedWorlds};
 
 /// A capability that no process has effective or permitted, that no file permits within the bound, and that is not both
 /// inheritable of a process and inheritable of a file, stays so over each step, and no record of the step is an exercise of it.
@@ -17,4 +21,13 @@ pub fn never_had()
     ensures boot { NeverBoot }
     ensures end { NeverEnd }
     ensures recs { NeverExercised }
+{}
+
+/// Where none of the five capabilities over labels is in the set `ever` of a world, no record of a run crosses any label, for
+/// every script. So each label's Low tags are answered what they are answered in the part alone, and two such worlds with the
+/// same part answer Low tags alike in two scripts with the same Low items.
+pub fn confined()
+    ensures inside { ConfinedInside }
+    ensures alone { ConfinedAlone }
+    ensures worlds { ConfinedWorlds }
 {}
