@@ -3,5 +3,7 @@ pub mod Rows
 pub mod States
 pub mod Kept
 pub mod Absent
+pub mod Among
 pub mod Ever
 pub mod ConfinedRuns
+pub mod UncrossedRuns

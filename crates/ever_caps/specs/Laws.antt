@@ -18,6 +18,7 @@ use Rattle.kern_model.specs.World.{IsWorld}
 use Rattle.iso_laws.specs.Unnamed.{IsUnnamed}
 use Rattle.ever_caps.specs.Absent.{IsAbsent}
 use Rattle.ever_caps.specs.Ever.{ever, is_confined}
+use Rattle.ever_caps.specs.Uncrossed.{is_uncrossed}
 
 -- ---- a step, of every state and for every call
 
@@ -58,4 +59,21 @@ ConfinedAlone = (l : Label) (w : World) (items : List ScriptItem) → IsWorld w 
 abbrev pub ConfinedWorlds : Type 0
 ConfinedWorlds = (l : Label) (w v : World) (is js : List ScriptItem) → IsWorld w → IsWorld v → is_script w.top is ≡ true → is_script v.top js ≡ true
     → part l (boot w) ≡ part l (boot v) → part_script l is ≡ part_script l js → is_confined w ≡ true → is_confined v ≡ true
+    → answers l (run (boot w) is) ≡ answers l (run (boot v) js)
+
+-- ---- worlds in which processes with labels strictly above one may come to have cap_mac_read, and none may have another of the five
+
+-- no record of a run crosses this label
+abbrev pub UncrossedInside : Type 0
+UncrossedInside = (l : Label) (w : World) (items : List ScriptItem) → is_uncrossed l w ≡ true → any_crosses l (all_recs w items) ≡ false
+
+-- what its Low tags are answered is what they are answered in the part alone
+abbrev pub UncrossedAlone : Type 0
+UncrossedAlone = (l : Label) (w : World) (items : List ScriptItem) → IsWorld w → is_script w.top items ≡ true → is_uncrossed l w ≡ true
+    → answers l (run (boot w) items) ≡ alone l w items
+
+-- two such worlds with the same part answer Low tags alike in two scripts with the same Low items
+abbrev pub UncrossedWorlds : Type 0
+UncrossedWorlds = (l : Label) (w v : World) (is js : List ScriptItem) → IsWorld w → IsWorld v → is_script w.top is ≡ true → is_script v.top js ≡ true
+    → part l (boot w) ≡ part l (boot v) → part_script l is ≡ part_script l js → is_uncrossed l w ≡ true → is_uncrossed l v ≡ true
     → answers l (run (boot w) is) ≡ answers l (run (boot v) js)

@@ -1,3 +1,4 @@
 pub mod Absent
 pub mod Ever
 pub mod Laws
+pub mod Uncrossed

@@ -1,11 +1,11 @@
-//! Capabilities that no process can ever have, from the sets of a world alone.
+//! Capabilities that no process can ever have, from the sets of a world alone, and labels that nothing can ever cross.
 //!
 //! By the capabilities over labels are meant the five that override the rules on them: `cap_mac_downgrade`, `cap_mac_read`,
 //! `cap_mac_relabel_subj`, `cap_mac_upgrade` and `cap_mac_write`. Each law is stated in `specs/Laws.antt`.
 #![tactic(auto)]
 
 ghost use Rattle.ever_caps.specs.Laws.{AbsentStep, AbsentUnnamed, NeverBoot, NeverEnd, NeverExercised};
-ghost use Rattle.ever_caps.specs.Laws.{ConfinedAlone, ConfinedInside, ConfinedWorlds};
+ghost use Rattle.ever_caps.specs.Laws.{ConfinedAlone, ConfinedInside, ConfinedWorlds, UncrossedAlone, UncrossedInside, UncrossedWorlds};
 
 /// A capability that no process has effective or permitted, that no file permits within the bound, and that is not both
 /// inheritable of a process and inheritable of a file, stays so over each step, and no record of the step is an exercise of it.
@@ -30,4 +30,14 @@ pub fn confined()
     ensures inside { ConfinedInside }
     ensures alone { ConfinedAlone }
     ensures worlds { ConfinedWorlds }
+{}
+
+/// Where the other four of the five capabilities are not in the set `ever` of a world, and each process that has `cap_mac_read`,
+/// or to which a file gives it whose label its own dominates, has a label strictly above one label, no record of a run crosses
+/// this one, for every script. So its Low tags are answered what they are answered in the part alone, and two such worlds with
+/// the same part answer Low tags alike in two scripts with the same Low items.
+pub fn uncrossed()
+    ensures inside { UncrossedInside }
+    ensures alone { UncrossedAlone }
+    ensures worlds { UncrossedWorlds }
 {}
