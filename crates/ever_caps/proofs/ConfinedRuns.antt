@@ -22,7 +22,7 @@ use Rattle.iso_laws.specs.Unnamed.{IsUnnamed, is_exercise_of}
 use Rattle.iso_laws.proofs.Laws.{isolated_whole, two_worlds_same}
 use Rattle.ever_caps.specs.Ever.{ever, mac_caps, mac_ever}
 use Rattle.ever_caps.specs.Laws.{ConfinedAlone, ConfinedInside, ConfinedWorlds}
-use Rattle.ever_caps.proofs.Ever.{never_exercised}
+use Rattle.ever_caps.proofs.EverRuns.{never_exercised}
 
 -- ---- the five capabilities
 now_in : (a : CapSet) (c : Cap) → has (with_cap a c) c ≡ true

@@ -1,9 +1,10 @@
+pub mod Joined
 pub mod Meets
 pub mod Rows
 pub mod States
 pub mod Kept
 pub mod Absent
 pub mod Among
-pub mod Ever
+pub mod EverRuns
 pub mod ConfinedRuns
 pub mod UncrossedRuns

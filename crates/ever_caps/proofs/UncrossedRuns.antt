@@ -1,6 +1,6 @@
 -- Worlds in which only processes with labels strictly above one may come to have cap_mac_read, and none another of the five capabilities over labels.
 use Rattle.std.specs.Prelude.{◌≡◌, ◌&&◌, ◌||◌, not, Bool, true, false, List, [], ◌∷◌, ◌++◌, Some, None, refl, cond}
-use Rattle.std.specs.List.{AllByRecursion, flat_map, list_all, list_any}
+use Rattle.std.specs.List.{AllByRecursion, flat_map, list_any}
 use Rattle.std.specs.FinMap as map
 use Rattle.std.proofs.Common.{sym, ◌∙◌, ap, subst, inl, inr}
 use Rattle.std.proofs.lemmas.Bool.{and_from, and_left, and_parts, and_right, false_from_ne_true, not-true, not_from_false, or_cases, or_from, or_parts, true≢false}
@@ -41,11 +41,11 @@ use Rattle.iso_laws.proofs.Steps.{fixed_after, step_cases}
 use Rattle.ever_caps.specs.Absent.{IsAbsent}
 use Rattle.ever_caps.specs.Ever.{mac_ever}
 use Rattle.ever_caps.specs.Laws.{UncrossedAlone, UncrossedInside, UncrossedWorlds}
-use Rattle.ever_caps.specs.Uncrossed.{gives_below, is_above, may_have}
+use Rattle.ever_caps.specs.Uncrossed.{gives_below, is_above, may_have, only_above}
 use Rattle.ever_caps.proofs.Absent.{absent_step}
 use Rattle.ever_caps.proofs.Among.{IsAmong, all_at, each_among, none_at}
 use Rattle.ever_caps.proofs.ConfinedRuns.{mac_never, run_inside}
-use Rattle.ever_caps.proofs.Ever.{never_boot}
+use Rattle.ever_caps.proofs.EverRuns.{never_boot}
 use Rattle.ever_caps.proofs.Kept.{IsFair, OfFile, OfProcess, has-exec_permitted, is_kept, rule_holds_without}
 use Rattle.ever_caps.proofs.Meets.{IsGranted, exercise_of}
 use Rattle.ever_caps.proofs.Rows.{IsKept, ReadsByLabel, ReadsByName}
@@ -177,7 +177,7 @@ module _ (l : Label) (w : World) where
       true≢false (sym (rule_holds_without (subject who p) (mac_downgrade_of new id (object_at s id) place) cap.MacDowngrade refl (caller.lacks cap.MacDowngrade downgrade_is_other) granted))
 
   -- ---- the rules keep processes of other labels without it
-  module _ (readers : list_all (λ (p : WorldProc). is_above p.label l || not (may_have cap.MacRead w p)) w.procs ≡ true) where
+  module _ (readers : only_above l cap.MacRead w ≡ true) where
     -- a process of the world whose label is not strictly above may not come to have it
     may_not : (p : WorldProc) → IsAmong w.procs p → is_above p.label l ≡ false → may_have cap.MacRead w p ≡ false
     may_not p among other =
@@ -307,7 +307,7 @@ start_inside l (w ∷ ws) s = start_inside l ws (boot_process s w)
 
 pub uncrossed_inside : UncrossedInside
 uncrossed_inside l w items uncrossed =
-    let parts = and_parts (is_within (mac_ever w) (with_cap no_caps cap.MacRead)) (list_all (λ (p : WorldProc). is_above p.label l || not (may_have cap.MacRead w p)) w.procs) uncrossed in
+    let parts = and_parts (is_within (mac_ever w) (with_cap no_caps cap.MacRead)) (only_above l cap.MacRead w) uncrossed in
     inside-append l w parts.1 (boot_recs w) _ (start_inside l w.procs (objects_loaded w)) (steps_inside l w parts.1 items (boot w) (first_reached l w parts.1 parts.0))
 
 pub uncrossed_alone : UncrossedAlone

@@ -24,6 +24,10 @@ gives_below c w p o = dominates p.label o.label && has (exec_permitted p.caps (s
 abbrev pub may_have : Cap → World → WorldProc → Bool
 may_have c w p = has (union_of p.caps.e p.caps.p) c || list_any (gives_below c w p) w.objects
 
+-- whether only processes with labels strictly above this one may have a capability
+abbrev pub only_above : Label → Cap → World → Bool
+only_above l c w = list_all (λ (p : WorldProc). is_above p.label l || not (may_have c w p)) w.procs
+
 -- whether, of the five capabilities over labels, a process may ever have cap_mac_read at most, and only one with a label strictly above this one
 abbrev pub is_uncrossed : Label → World → Bool
-is_uncrossed l w = is_within (mac_ever w) (with_cap no_caps cap.MacRead) && list_all (λ (p : WorldProc). is_above p.label l || not (may_have cap.MacRead w p)) w.procs
+is_uncrossed l w = is_within (mac_ever w) (with_cap no_caps cap.MacRead) && only_above l cap.MacRead w

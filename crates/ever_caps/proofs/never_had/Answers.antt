@@ -1,4 +1,4 @@
-use Rattle.ever_caps.proofs.Ever.{never_boot, never_end, never_exercised}
+use Rattle.ever_caps.proofs.EverRuns.{never_boot, never_end, never_exercised}
 use Rattle.ever_caps.proofs.never_had.Goals as goal
 
 pub returns-clause-boot : goal.returns-clause-boot
