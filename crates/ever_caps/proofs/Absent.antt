@@ -44,7 +44,7 @@ module _ (c : Cap) (bound : CapSet) (Inherits LetsInherit : Type 0) (never : Let
     reads = λ id place other was granted. (refl, λ none. none, never);
     writes = λ id place granted other. refl;
     own_label = λ new allowed caps h _. let was = h refl in record { lives = tt; effective = was.effective; permitted = was.permitted; inherits = was.inherits };
-    file_label = λ id new place granted f h _. let was = h refl in record { permits = was.permits; lets_inherit = was.lets_inherit };
+    file_label = λ id new place written granted f h _. let was = h refl in record { permits = was.permits; lets_inherit = was.lets_inherit };
   }
 
   pub kept : (s : State) → AllSets Processes Files s → s.bound ≡ bound → (who : Pid) (p : Process) → map.get s.procs who ≡ Some p → IsKept Processes Files s who p

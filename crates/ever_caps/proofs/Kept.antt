@@ -82,7 +82,7 @@ module _ (c : Cap) (bound : CapSet) (may_have : Label → Bool) (Lives Inherits 
     pub writes : (id : Oid) (place : Place) → IsGranted (subject who p) (mac_write s p id place) → may_have (object_at s id).label ≡ false → may_have p.label ≡ false
     pub own_label : (new : Label) → (not (same_label new p.label) ≡ true → IsGranted (subject who p) (mac_subject who p new))
         → (caps : CapState) → OfProcess p.label caps → OfProcess new caps
-    pub file_label : (id : Oid) (new : Label) (place : Place) → IsGranted (subject who p) (mac_change_of new id (object_at s id) place)
+    pub file_label : (id : Oid) (new : Label) (place : Place) → IsGranted (subject who p) (mac_write s p id place) → IsGranted (subject who p) (mac_change_of new id (object_at s id) place)
         → (f : FileCaps) → OfFile (object_at s id).label f → OfFile new f
 
   no_caps_limited : (l : Label) → OfFile l no_file_caps
@@ -163,5 +163,5 @@ module _ (c : Cap) (bound : CapSet) (may_have : Label → Bool) (Lives Inherits 
       programs = programs;
       file_sets = file_sets;
       own_label = λ new allowed. fair.own_label new allowed p.caps caller;
-      file_label = λ id new place granted. fair.file_label id new place granted (object_at s id).attr.caps (files id);
+      file_label = λ id new place written granted. fair.file_label id new place written granted (object_at s id).attr.caps (files id);
     }

@@ -7,4 +7,5 @@ pub mod Absent
 pub mod Among
 pub mod EverRuns
 pub mod ConfinedRuns
+pub mod Callers
 pub mod UncrossedRuns

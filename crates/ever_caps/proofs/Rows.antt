@@ -4,7 +4,9 @@ use Rattle.std.specs.List.{AllByRecursion}
 use Rattle.std.specs.FinMap as map
 use Rattle.std.proofs.Common.{sym, subst}
 use Rattle.std.proofs.lemmas.Bool.{and_parts}
+use Rattle.cap_bits.specs.CapSet.{has}
 use Rattle.cap_bits.specs.FileCaps.{caps_by, no_file_caps, shown}
+use Rattle.cap_bits.specs.declared.cap.Cap.TheVariants as cap
 use Rattle.cap_bits.specs.declared.file_caps.FileCaps.{FileCaps}
 use Rattle.cap_bits.specs.declared.state.CapState.{CapState}
 use Rattle.fs_path.specs.Name.{Name}
@@ -50,13 +52,20 @@ use Rattle.kern_model.proofs.MapLemmas.{each-entries}
 use Rattle.iso_laws.proofs.AllLemmas.{all-append, all_always, all_each, all_if}
 use Rattle.ever_caps.proofs.Meets.{IsGranted, Meets, meets_cond, meets_need_if}
 
--- a check of reading by label asks that the caller's label dominates the thing's, and gives no label
-abbrev pub ReadsByName : Process → Check → CheckName → Type 0
-ReadsByName p c check.MacRead = (c.holds ≡ dominates p.label c.thing_label) × (c.new_label ≡ None)
-ReadsByName p c _ = ⊤
+-- a new label dominates the old one
+abbrev pub GoesUp : Label → Option Label → Type 0
+GoesUp old None = ⊥
+GoesUp old (Some new) = dominates new old ≡ true
 
-abbrev pub ReadsByLabel : Process → Check → Type 0
-ReadsByLabel p c = ReadsByName p c c.name
+-- a check of reading by label asks that the caller's label dominates the thing's, and gives no label; one of a label that goes up is of an object that the
+-- caller writes, by label
+abbrev pub AsksByName : Process → Check → CheckName → Type 0
+AsksByName p c check.MacRead = (c.holds ≡ dominates p.label c.thing_label) × (c.new_label ≡ None)
+AsksByName p c check.MacUpgrade = ((same_label p.label c.thing_label || has p.caps.e cap.MacWrite) ≡ true) × GoesUp c.thing_label c.new_label
+AsksByName p c _ = ⊤
+
+abbrev pub AsksByLabel : Process → Check → Type 0
+AsksByLabel p c = AsksByName p c c.name
 
 -- a record is no exercise
 abbrev pub IsNoExercise : Rec → Type 0
@@ -93,16 +102,16 @@ module _ (OfProcess : Label → CapState → Type 0) (OfFile : Label → FileCap
         → OfFile (object_at s id).label (caps_by caps)
     -- it changes its label, or that of an object
     pub own_label : (new : Label) → (not (same_label new p.label) ≡ true → IsGranted (subject who p) (mac_subject who p new)) → OfProcess new p.caps
-    pub file_label : (id : Oid) (new : Label) (place : Place) → IsGranted (subject who p) (mac_change_of new id (object_at s id) place)
+    pub file_label : (id : Oid) (new : Label) (place : Place) → IsGranted (subject who p) (mac_write s p id place) → IsGranted (subject who p) (mac_change_of new id (object_at s id) place)
         → OfFile new (object_at s id).attr.caps
 
   module _ (s : State) (who : Pid) (p : Process) (kept : IsKept s who p) where
     abbrev RowMeets : Row → Type 0
-    RowMeets = Meets (subject who p) (ReadsByLabel p) Commits
+    RowMeets = Meets (subject who p) (AsksByLabel p) Commits
 
     -- ---- parts of rows
     either : (b : Bool) (x y : Row) → (b ≡ true → RowMeets x) → (b ≡ false → RowMeets y) → RowMeets (cond b x y)
-    either = meets_cond (subject who p) (ReadsByLabel p) Commits
+    either = meets_cond (subject who p) (AsksByLabel p) Commits
 
     missing : (o : Option Oid) (k : Oid → Row) → ((id : Oid) → RowMeets (k id)) → RowMeets (or_missing o k)
     missing None k h = tt
@@ -150,8 +159,8 @@ module _ (OfProcess : Label → CapState → Type 0) (OfFile : Label → FileCap
         (λ _. (tt, ((λ _. ((kept.files id, (tt, (tt, (kept.caller, tt)))), tt)), ((kept.bare (object_at s id).label, (tt, (tt, (kept.caller, tt)))), tt))))
         (λ _. ((tt, (tt, (kept.caller, tt))), tt))
 
-    asked : (b : Bool) (c : Check) (r : Row) → ReadsByLabel p c → RowMeets r → RowMeets (need_if b c r)
-    asked b c r h rest = meets_need_if (subject who p) (ReadsByLabel p) Commits b c r h (λ _. rest)
+    asked : (b : Bool) (c : Check) (r : Row) → AsksByLabel p c → RowMeets r → RowMeets (need_if b c r)
+    asked b c r h rest = meets_need_if (subject who p) (AsksByLabel p) Commits b c r h (λ _. rest)
 
     present : (flags : OpenFlags) (id : Oid) (place : Place) → RowMeets (open_present s who p flags id place)
     present flags id place =
@@ -220,21 +229,22 @@ module _ (OfProcess : Label → CapState → Type 0) (OfFile : Label → FileCap
     got_label : (id : Oid) (place : Place) → RowMeets (get_label s p id place)
     got_label id place = ((refl, refl), λ _. (tt, tt))
 
-    change_reads : (b : Bool) (new : Label) (id : Oid) (place : Place) → ReadsByLabel p (cond b (mac_upgrade_of new id (object_at s id) place) (mac_downgrade_of new id (object_at s id) place))
-    change_reads true new id place = tt
-    change_reads false new id place = tt
+    change_asks : (b : Bool) (new : Label) (id : Oid) (place : Place) → dominates new (object_at s id).label ≡ b → IsGranted (subject who p) (mac_write s p id place)
+        → AsksByLabel p (cond b (mac_upgrade_of new id (object_at s id) place) (mac_downgrade_of new id (object_at s id) place))
+    change_asks true new id place up written = (written, up)
+    change_asks false new id place up written = tt
 
     relabelled : (new : Label) (id : Oid) (place : Place) → RowMeets (set_label s who p new id place)
     relabelled new id place =
         let was : Label = (object_at s id).label in (
           tt,
-          λ _. (
+          λ written. (
             tt,
             λ _. either (same_label new was) _ _
                 (λ equal.
                 let parts = and_parts (dominates new was) (dominates was new) equal in
                 ((subst (λ (l : Label). OfFile l (object_at s id).attr.caps) (sym (dominates_both new was parts.0 parts.1)) (kept.files id), tt), tt))
-                (λ _. (change_reads (dominates new was) new id place, λ granted. (tt, λ _. ((kept.file_label id new place granted, tt), tt)))),
+                (λ _. (change_asks (dominates new was) new id place refl written, λ granted. (tt, λ _. ((kept.file_label id new place written granted, tt), tt)))),
           ),
         )
 
@@ -299,6 +309,6 @@ module _ (OfProcess : Label → CapState → Type 0) (OfFile : Label → FileCap
     row_meets call.CapGetProc = (tt, tt)
     row_meets (call.CapSetProc caps) = (tt, λ granted. ((kept.own_sets caps granted, tt), tt))
     row_meets call.MacGetProc = (tt, tt)
-    row_meets (call.MacSetProc new) = meets_need_if (subject who p) (ReadsByLabel p) Commits _ _ _ tt (λ granted. ((kept.own_label new granted, tt), tt))
+    row_meets (call.MacSetProc new) = meets_need_if (subject who p) (AsksByLabel p) Commits _ _ _ tt (λ granted. ((kept.own_label new granted, tt), tt))
     row_meets (call.AudWrite bytes) = (tt, λ _. (tt, tt))
     row_meets (call.AudSwitch on) = (tt, λ _. ((kept.caller, tt), tt))

@@ -32,11 +32,11 @@ use Rattle.kern_model.proofs.MapLemmas.{each-insert, each-remove, never_some}
 use Rattle.iso_laws.proofs.AllLemmas.{all-append}
 use Rattle.iso_laws.proofs.Steps.{row_outcome}
 use Rattle.ever_caps.proofs.Meets.{EndMeets, IsUse, row_end, row_uses}
-use Rattle.ever_caps.proofs.Rows.{Commits, IfOwn, IsKept, IsNoExercise, ReadsByLabel, Sets, row_meets}
+use Rattle.ever_caps.proofs.Rows.{Commits, IfOwn, IsKept, IsNoExercise, AsksByLabel, Sets, row_meets}
 
 -- a record is a use of a check by the caller, or no exercise
 abbrev pub IsLeft : Pid → Process → Rec → Type 0
-IsLeft who p r = IsUse (ReadsByLabel p) (subject who p) r ⊎ IsNoExercise r
+IsLeft who p r = IsUse (AsksByLabel p) (subject who p) r ⊎ IsNoExercise r
 
 pub all_weaker : {X : Type 0} (P Q : X → Type 0) → ((x : X) → P x → Q x) → (xs : List X) → AllByRecursion P xs → AllByRecursion Q xs
 all_weaker P Q f [] h = tt
@@ -72,7 +72,7 @@ module _ (OfProcess : Label → CapState → Type 0) (OfFile : Label → FileCap
 
   -- ---- a step
   module _ (s : State) (all : AllSets s) (who : Pid) (p : Process) (kept : IsKept OfProcess OfFile s who p) where
-    state_sets : (e : End) → EndMeets (subject who p) (ReadsByLabel p) (Commits OfProcess OfFile) e → AllSets (state_after s e)
+    state_sets : (e : End) → EndMeets (subject who p) (AsksByLabel p) (Commits OfProcess OfFile) e → AllSets (state_after s e)
     state_sets (Stopped name place) h = all
     state_sets (Refused e) h = all
     state_sets (Done cs answer own) h = over_all cs s all h.0
@@ -85,7 +85,7 @@ module _ (OfProcess : Label → CapState → Type 0) (OfFile : Label → FileCap
     own_left None h = tt
     own_left (Some r) h = (inr h, tt)
 
-    end_left : (name : CallName) (e : End) → EndMeets (subject who p) (ReadsByLabel p) (Commits OfProcess OfFile) e → AllByRecursion (IsLeft who p) (own_of who p name e)
+    end_left : (name : CallName) (e : End) → EndMeets (subject who p) (AsksByLabel p) (Commits OfProcess OfFile) e → AllByRecursion (IsLeft who p) (own_of who p name e)
     end_left name (Stopped check place) h = denial_left p.audited (rec.Deny who name (denial_of check) check place) tt
     end_left name (Refused e) h = tt
     end_left name (Done cs answer own) h = own_left own h.1
@@ -94,7 +94,7 @@ module _ (OfProcess : Label → CapState → Type 0) (OfFile : Label → FileCap
     pub step_sets : (c : Call) → AllSets (step_result s who p (name_of c) (row_outcome s who c p)).state
     step_sets c =
         state_sets (row_outcome s who c p).end
-        (row_end (subject who p) (ReadsByLabel p) (Commits OfProcess OfFile) [] (row s who p c) (row_meets OfProcess OfFile s who p kept c))
+        (row_end (subject who p) (AsksByLabel p) (Commits OfProcess OfFile) [] (row s who p c) (row_meets OfProcess OfFile s who p kept c))
 
     -- and its records
     pub step_left : (c : Call) → AllByRecursion (IsLeft who p) (step_result s who p (name_of c) (row_outcome s who c p)).recs
@@ -102,8 +102,8 @@ module _ (OfProcess : Label → CapState → Type 0) (OfFile : Label → FileCap
         let meets = row_meets OfProcess OfFile s who p kept c in
         all-append (IsLeft who p) (row_outcome s who c p).used _
         (all_weaker _ (IsLeft who p) (λ r used. inl used) (row_outcome s who c p).used
-        (row_uses (subject who p) (ReadsByLabel p) (Commits OfProcess OfFile) [] (row s who p c) meets tt))
-        (end_left (name_of c) (row_outcome s who c p).end (row_end (subject who p) (ReadsByLabel p) (Commits OfProcess OfFile) [] (row s who p c) meets))
+        (row_uses (subject who p) (AsksByLabel p) (Commits OfProcess OfFile) [] (row s who p c) meets tt))
+        (end_left (name_of c) (row_outcome s who c p).end (row_end (subject who p) (AsksByLabel p) (Commits OfProcess OfFile) [] (row s who p c) meets))
 
   -- ---- the start
   entries_set : (s : State) (dir : Oid) (names : List Name) (id : Oid) → AllByRecursion SetsOf (entry_for s dir names id)

@@ -61,7 +61,7 @@ ConfinedWorlds = (l : Label) (w v : World) (is js : List ScriptItem) → IsWorld
     → part l (boot w) ≡ part l (boot v) → part_script l is ≡ part_script l js → is_confined w ≡ true → is_confined v ≡ true
     → answers l (run (boot w) is) ≡ answers l (run (boot v) js)
 
--- ---- worlds in which processes with labels strictly above one may come to have cap_mac_read, and none may have another of the five
+-- ---- worlds in which processes with labels strictly above one may come to have cap_mac_read and cap_mac_upgrade, and none may have another of the five
 
 -- no record of a run crosses this label
 abbrev pub UncrossedInside : Type 0

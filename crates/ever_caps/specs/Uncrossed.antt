@@ -1,7 +1,7 @@
 -- Worlds in which nothing ever crosses one label.
 use Rattle.std.specs.Prelude.{◌&&◌, ◌||◌, not, Bool}
 use Rattle.std.specs.List.{list_all, list_any}
-use Rattle.cap_bits.specs.CapSet.{has, is_within, no_caps, union_of, with_cap}
+use Rattle.cap_bits.specs.CapSet.{CapSet, has, is_within, no_caps, union_of, with_cap}
 use Rattle.cap_bits.specs.FileCaps.{shown}
 use Rattle.cap_bits.specs.declared.cap.Cap.{Cap}
 use Rattle.cap_bits.specs.declared.cap.Cap.TheVariants as cap
@@ -28,6 +28,10 @@ may_have c w p = has (union_of p.caps.e p.caps.p) c || list_any (gives_below c w
 abbrev pub only_above : Label → Cap → World → Bool
 only_above l c w = list_all (λ (p : WorldProc). is_above p.label l || not (may_have c w p)) w.procs
 
--- whether, of the five capabilities over labels, a process may ever have cap_mac_read at most, and only one with a label strictly above this one
+-- the two of the five capabilities over labels that only read, and that only move an object up
+abbrev pub upward_caps : CapSet
+upward_caps = with_cap (with_cap no_caps cap.MacRead) cap.MacUpgrade
+
+-- whether, of the five, a process may ever have these two at most, and only one with a label strictly above this one
 abbrev pub is_uncrossed : Label → World → Bool
-is_uncrossed l w = is_within (mac_ever w) (with_cap no_caps cap.MacRead) && only_above l cap.MacRead w
+is_uncrossed l w = is_within (mac_ever w) upward_caps && only_above l cap.MacRead w && only_above l cap.MacUpgrade w

@@ -1,7 +1,7 @@
 // Whether nothing ever crosses a label.
 ghost use Rattle.std.specs.Prelude.{◌≡◌};
 ghost use Rattle.std.specs.List.{list_any};
-ghost use Rattle.ever_caps.specs.Uncrossed.{gives_below, is_above, is_uncrossed, may_have, only_above};
+ghost use Rattle.ever_caps.specs.Uncrossed.{gives_below, is_above, is_uncrossed, may_have, only_above, upward_caps};
 
 use crate::sets::{mac_ever, program_permits};
 use cap_bits::{Cap, CapSet};
@@ -49,11 +49,19 @@ fn only_above(label: &Label, cap: Cap, world: &World) -> bool
         || !may_have(cap, world, process))
 }
 
-/// Whether, of the five capabilities over labels, a process may ever have `cap_mac_read` at most, and only one with a label
-/// strictly above this one: then nothing ever crosses this label.
+// The two of the five capabilities over labels that only read, and that only move an object up.
+fn upward_caps() -> CapSet
+    ensures { result ≡ upward_caps }
+{
+    CapSet::none().with(Cap::MacRead).with(Cap::MacUpgrade)
+}
+
+/// Whether, of the five capabilities over labels, a process may ever have `cap_mac_read` and `cap_mac_upgrade` at most, and only
+/// one with a label strictly above this one: then nothing ever crosses this label.
 pub fn is_uncrossed(label: &Label, world: &World) -> bool
     ensures { result ≡ is_uncrossed label.now world.now }
 {
-    let readers = CapSet::none().with(Cap::MacRead);
-    mac_ever(world).within(&readers) && only_above(label, Cap::MacRead, world)
+    mac_ever(world).within(&upward_caps())
+        && only_above(label, Cap::MacRead, world)
+        && only_above(label, Cap::MacUpgrade, world)
 }

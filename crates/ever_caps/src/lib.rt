@@ -38,10 +38,11 @@ pub fn confined()
     ensures worlds { ConfinedWorlds }
 {}
 
-/// Where the other four of the five capabilities are not in the set `ever` of a world, and each process that has `cap_mac_read`,
-/// or to which a file gives it whose label its own dominates, has a label strictly above one label, no record of a run crosses
-/// this one, for every script. So its Low tags are answered what they are answered in the part alone, and two such worlds with
-/// the same part answer Low tags alike in two scripts with the same Low items.
+/// Let the other three of the five capabilities be not in the set `ever` of a world, and let each process that has
+/// `cap_mac_read` or `cap_mac_upgrade`, or to which a file gives one of them whose label its own dominates, have a label strictly
+/// above one label. Then no record of a run crosses this one, for every script. So its Low tags are answered what they are
+/// answered in the part alone, and two such worlds with the same part answer Low tags alike in two scripts with the same Low
+/// items.
 pub fn uncrossed()
     ensures inside { UncrossedInside }
     ensures alone { UncrossedAlone }
