@@ -6,6 +6,7 @@ pub mod Kept
 pub mod Absent
 pub mod Among
 pub mod EverRuns
+pub mod Sources
 pub mod ConfinedRuns
 pub mod Callers
 pub mod UncrossedRuns

@@ -1,5 +1,6 @@
 -- The laws, each by its name.
-use Rattle.std.specs.Prelude.{◌≡◌, true, false, List}
+use Rattle.std.specs.Prelude.{◌≡◌, ◌||◌, true, false, List}
+use Rattle.std.specs.List.{list_any}
 use Rattle.cap_bits.specs.CapSet.{has}
 use Rattle.cap_bits.specs.declared.cap.Cap.{Cap}
 use Rattle.lab_lattice.specs.Label.{Label}
@@ -7,6 +8,8 @@ use Rattle.kern_model.specs.declared.calls.Call.{Call}
 use Rattle.kern_model.specs.declared.numbers.Pid.{Pid}
 use Rattle.kern_model.specs.declared.world.ScriptItem.{ScriptItem}
 use Rattle.kern_model.specs.declared.world.World.{World}
+use Rattle.kern_model.specs.declared.world.WorldObject.{WorldObject}
+use Rattle.kern_model.specs.declared.world.WorldProc.{WorldProc}
 use Rattle.kern_model.specs.Arguments.{is_script}
 use Rattle.kern_model.specs.Boot.{boot}
 use Rattle.kern_model.specs.Isolation.{alone, answers, any_crosses, part, part_script}
@@ -17,7 +20,7 @@ use Rattle.kern_model.specs.Step.{step}
 use Rattle.kern_model.specs.World.{IsWorld}
 use Rattle.iso_laws.specs.Unnamed.{IsUnnamed}
 use Rattle.ever_caps.specs.Absent.{IsAbsent}
-use Rattle.ever_caps.specs.Ever.{ever, is_confined}
+use Rattle.ever_caps.specs.Ever.{ever, is_confined, mac_ever, mac_given, mac_held}
 use Rattle.ever_caps.specs.Uncrossed.{is_uncrossed}
 
 -- ---- a step, of every state and for every call
@@ -43,6 +46,11 @@ NeverEnd = (c : Cap) (w : World) (items : List ScriptItem) → has (ever w) c �
 -- and no record of a run is an exercise of it
 abbrev pub NeverExercised : Type 0
 NeverExercised = (c : Cap) (w : World) (items : List ScriptItem) → has (ever w) c ≡ false → IsUnnamed c (all_recs w items)
+
+-- those of the five capabilities over labels that a process may ever have are held by processes of the world, or given by its files
+abbrev pub EverHasSource : Type 0
+EverHasSource = (c : Cap) (w : World)
+    → has (mac_ever w) c ≡ (list_any (λ (p : WorldProc). has (mac_held p) c) w.procs || list_any (λ (o : WorldObject). has (mac_given w o) c) w.objects)
 
 -- ---- worlds in which no process may ever have one of the five capabilities over labels
 

@@ -4,7 +4,7 @@
 //! `cap_mac_relabel_subj`, `cap_mac_upgrade` and `cap_mac_write`. Each law is stated in `specs/Laws.antt`.
 #![tactic(auto)]
 
-ghost use Rattle.ever_caps.specs.Laws.{AbsentStep, AbsentUnnamed, NeverBoot, NeverEnd, NeverExercised};
+ghost use Rattle.ever_caps.specs.Laws.{AbsentStep, AbsentUnnamed, EverHasSource, NeverBoot, NeverEnd, NeverExercised};
 ghost use Rattle.ever_caps.specs.Laws.{ConfinedAlone, ConfinedInside, ConfinedWorlds, UncrossedAlone, UncrossedInside, UncrossedWorlds};
 
 mod labels;
@@ -27,6 +27,12 @@ pub fn never_had()
     ensures boot { NeverBoot }
     ensures end { NeverEnd }
     ensures recs { NeverExercised }
+{}
+
+/// Each of the five capabilities over labels that a process may ever have in a world is held by one of its processes, or given
+/// by one of its files, and each that is held or given is one that a process may ever have.
+pub fn ever_has_source()
+    ensures { EverHasSource }
 {}
 
 /// Where none of the five capabilities over labels is in the set `ever` of a world, no record of a run crosses any label, for
