@@ -31,10 +31,10 @@ use Rattle.ever_caps.proofs.States.{all_weaker, boot_sets}
 
 -- ---- what several have together
 -- the second state has a capability in each set in which the first has it
-record HasToo (c : Cap) (a b : CapState) : Type 0 where
-  e : has a.e c ≡ true → has b.e c ≡ true
-  i : has a.i c ≡ true → has b.i c ≡ true
-  p : has a.p c ≡ true → has b.p c ≡ true
+pub record HasToo (c : Cap) (a b : CapState) : Type 0 where
+  pub e : has a.e c ≡ true → has b.e c ≡ true
+  pub i : has a.i c ≡ true → has b.i c ≡ true
+  pub p : has a.p c ≡ true → has b.p c ≡ true
 
 module _ (c : Cap) where
   first_has : (a b : CapState) → HasToo c a (join a b)
@@ -52,7 +52,7 @@ module _ (c : Cap) where
   }
 
   -- what one has, all have together
-  together : {X : Type 0} (f : X → CapState) (xs : List X) → AllByRecursion (λ x. HasToo c (f x) (joined f xs)) xs
+  pub together : {X : Type 0} (f : X → CapState) (xs : List X) → AllByRecursion (λ x. HasToo c (f x) (joined f xs)) xs
   together f [] = tt
   together f (x ∷ xs) =
       let more = second_has (f x) (joined f xs) in (
@@ -73,10 +73,10 @@ module _ (c : Cap) (w : World) (never : has (ever w) c ≡ false) where
   parts : (has (union_of (all_processes w).e (all_processes w).p) c ≡ false) × (has (exec_permitted (all_processes w) (all_files w) w.bound) c ≡ false)
   parts = or_parts _ _ (sym (has-union_of (union_of (all_processes w).e (all_processes w).p) (exec_permitted (all_processes w) (all_files w) w.bound) c) ∙ never)
 
-  held : (has (all_processes w).e c ≡ false) × (has (all_processes w).p c ≡ false)
+  pub held : (has (all_processes w).e c ≡ false) × (has (all_processes w).p c ≡ false)
   held = or_parts _ _ (sym (has-union_of (all_processes w).e (all_processes w).p c) ∙ parts.0)
 
-  given : ((has (all_files w).p c && has w.bound c) ≡ false) × ((has (all_files w).i c && has (all_processes w).i c) ≡ false)
+  pub given : ((has (all_files w).p c && has w.bound c) ≡ false) × ((has (all_files w).i c && has (all_processes w).i c) ≡ false)
   given = or_parts _ _ (sym (has-exec_permitted (all_processes w) (all_files w) w.bound c) ∙ parts.1)
 
   not_both : LetsInherit → Inherits → ⊥

@@ -9,4 +9,5 @@ pub mod EverRuns
 pub mod Sources
 pub mod ConfinedRuns
 pub mod Callers
+pub mod ConfinedLabels
 pub mod UncrossedRuns

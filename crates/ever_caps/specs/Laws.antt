@@ -85,3 +85,7 @@ abbrev pub UncrossedWorlds : Type 0
 UncrossedWorlds = (l : Label) (w v : World) (is js : List ScriptItem) → IsWorld w → IsWorld v → is_script w.top is ≡ true → is_script v.top js ≡ true
     → part l (boot w) ≡ part l (boot v) → part_script l is ≡ part_script l js → is_uncrossed l w ≡ true → is_uncrossed l v ≡ true
     → answers l (run (boot w) is) ≡ answers l (run (boot v) js)
+
+-- where no process may ever have one of the five, this is so of each label
+abbrev pub ConfinedUncrossed : Type 0
+ConfinedUncrossed = (l : Label) (w : World) → is_confined w ≡ true → is_uncrossed l w ≡ true

@@ -5,7 +5,7 @@
 #![tactic(auto)]
 
 ghost use Rattle.ever_caps.specs.Laws.{AbsentStep, AbsentUnnamed, EverHasSource, NeverBoot, NeverEnd, NeverExercised};
-ghost use Rattle.ever_caps.specs.Laws.{ConfinedAlone, ConfinedInside, ConfinedWorlds, UncrossedAlone, UncrossedInside, UncrossedWorlds};
+ghost use Rattle.ever_caps.specs.Laws.{ConfinedAlone, ConfinedInside, ConfinedUncrossed, ConfinedWorlds, UncrossedAlone, UncrossedInside, UncrossedWorlds};
 
 mod labels;
 mod sets;
@@ -48,9 +48,10 @@ pub fn confined()
 /// `cap_mac_read` or `cap_mac_upgrade`, or to which a file gives one of them whose label its own dominates, have a label strictly
 /// above one label. Then no record of a run crosses this one, for every script. So its Low tags are answered what they are
 /// answered in the part alone, and two such worlds with the same part answer Low tags alike in two scripts with the same Low
-/// items.
+/// items. Where none of the five is in the set `ever`, this is so of each label.
 pub fn uncrossed()
     ensures inside { UncrossedInside }
     ensures alone { UncrossedAlone }
     ensures worlds { UncrossedWorlds }
+    ensures confined { ConfinedUncrossed }
 {}

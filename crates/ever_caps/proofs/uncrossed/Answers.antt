@@ -1,3 +1,4 @@
+use Rattle.ever_caps.proofs.ConfinedLabels.{confined_uncrossed}
 use Rattle.ever_caps.proofs.UncrossedRuns.{uncrossed_alone, uncrossed_inside, uncrossed_worlds}
 use Rattle.ever_caps.proofs.uncrossed.Goals as goal
 
@@ -9,3 +10,6 @@ returns-clause-alone c = uncrossed_alone
 
 pub returns-clause-worlds : goal.returns-clause-worlds
 returns-clause-worlds c = uncrossed_worlds
+
+pub returns-clause-confined : goal.returns-clause-confined
+returns-clause-confined c = confined_uncrossed
