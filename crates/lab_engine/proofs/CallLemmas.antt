@@ -13,7 +13,7 @@ use Rattle.lab_text.specs.Policy.{PolicyNames}
 use Rattle.line_text.specs.Reply.{reply_line}
 use Rattle.lab_engine.specs.declared.ending.Fault.{Fault}
 use Rattle.lab_engine.specs.declared.reporting.Report.{Report}
-use Rattle.lab_engine.specs.declared.reporting.Report.TheVariants.{All, Below, Crossed, Counted}
+use Rattle.lab_engine.specs.declared.reporting.Report.TheVariants.{All, Below, Crossed, Counted, Named}
 use Rattle.lab_engine.specs.declared.reporting.Shown.{Shown}
 use Rattle.lab_engine.specs.declared.reporting.Shown.TheVariants as shown
 use Rattle.lab_engine.specs.Order.{Sent, call_order, to_out}
@@ -46,6 +46,7 @@ module _ (policy : PolicyNames) (n : ℕ) (p : CallRecord) where
   call_by_parts (Below l k) = below_by_parts (any_crosses l p.recs) (low l p.who.label)
   call_by_parts Crossed = refl
   call_by_parts (Counted t) = refl
+  call_by_parts (Named caps) = refl
 
   module _ (r : Report) (shown : Shown) (is : shown ≡ shown_of r p.who p.recs) (recs : List Rec) (are : recs ≡ p.recs) where
     abbrev before : List Sent

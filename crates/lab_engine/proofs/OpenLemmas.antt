@@ -15,11 +15,11 @@ use Rattle.lab_engine.specs.declared.opening.Opened.TheVariants as opened
 use Rattle.lab_engine.specs.declared.reading.ReadWorld.{ReadWorld}
 use Rattle.lab_engine.specs.declared.reading.ReadWorld.TheVariants as world
 use Rattle.lab_engine.specs.Counts.{Counts, CountsOnce, counted_by}
-use Rattle.lab_engine.specs.Input.{Begun, Input, begun_in, input_from, input_in, lines_at}
-use Rattle.lab_engine.specs.LeastInput.{least_at, least_by, least_in}
-use Rattle.lab_engine.specs.UpgradeInput.{upgrade_in, upgrade_by, upgrade_at}
+use Rattle.lab_engine.specs.Input.{Begun, Input, begun_in, input_from, input_in}
+use Rattle.lab_engine.specs.LeastInput.{least_by, least_in}
+use Rattle.lab_engine.specs.UpgradeInput.{upgrade_in, upgrade_by}
 use Rattle.lab_engine.specs.Opening.{OpensInput}
-use Rattle.lab_engine.specs.Reading.{ReadsWorld, Takes, begun_at, left_of, script_at, script_left}
+use Rattle.lab_engine.specs.Reading.{ReadsWorld, Takes, begun_at, least_at, left_of, lines_at, script_at, script_left, upgrade_at}
 use Rattle.lab_engine.proofs.WorldProgress.{counts_once}
 
 -- there is no memory for a reader

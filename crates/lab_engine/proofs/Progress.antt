@@ -3,7 +3,7 @@ use Rattle.std.proofs.Common.{◌≡◌, ◌⊎◌, ℕ, ◌+◌, List, [], ◌�
 use Rattle.std.proofs.lemmas.List.{append-nil}
 use Rattle.std.specs.Prelude.{Result, Ok, Err, MatchResult, OnOk}
 use Rattle.io_ends.specs.LinesState.{LinesState}
-use Rattle.io_ends.specs.Ends.{SinkView, SourceView}
+use Rattle.io_ends.specs.Ends.{SourceView}
 use Rattle.kern_model.specs.declared.world.ScriptItem.{ScriptItem}
 use Rattle.kern_model.specs.declared.records.Outcome.{Outcome}
 use Rattle.kern_model.specs.Run.{CallRecord, run, state_after_run}
@@ -13,20 +13,20 @@ use Rattle.lab_lattice.specs.Label.{Label}
 use Rattle.lab_text.specs.Policy.{PolicyNames}
 use Rattle.script_text.specs.declared.line.Line.{Line}
 use Rattle.lab_engine.specs.declared.ending.Fault.{Fault}
-use Rattle.lab_engine.specs.declared.ending.Fault.TheVariants.{Read}
 use Rattle.lab_engine.specs.declared.playing.Played.{Played}
 use Rattle.lab_engine.specs.declared.reporting.Report.{Report}
 use Rattle.lab_engine.specs.declared.reporting.Report.TheVariants.{All}
-use Rattle.lab_engine.specs.Counts.{Counts, counted_by}
 use Rattle.lab_engine.specs.Handling.{Handled, NoLine, NextLine, HandlesAll, HandlesScript, StopsBetween, StopsWithin}
-use Rattle.lab_engine.specs.Input.{Script}
+use Rattle.lab_engine.specs.Input.{Judge, ScriptLine, ScriptLines, items_in, items_of_lines, script_of}
 use Rattle.lab_engine.specs.Order.{Sent}
-use Rattle.lab_engine.specs.Playing.{ends, faults_of, PlaysAll, PlaysScript, Sends, SendsAll, StopsBy, StopsIn, WritesBoth}
+use Rattle.lab_engine.specs.Playing.{PlaysAll, PlaysScript, SendsAll, StopsBy, StopsIn, WritesBoth}
 use Rattle.lab_engine.specs.Player.{ends_at, PlayerView, PlaysCalls, StopsCalls}
 use Rattle.lab_engine.specs.Report.{CountsAtMost, items_reported, report_after}
 use Rattle.lab_engine.specs.Readable.{CallsReadable}
 use Rattle.lab_engine.specs.Reporter.{HasSeen, SawCalls, SawPart, calls_seen}
-use Rattle.lab_engine.specs.Reading.{left_of, script_at}
+use Rattle.lab_engine.specs.Reading.{left_of, lines_at}
+use Rattle.lab_engine.proofs.LinesWritten.{Continues, WritesLines, WritesPart, all_written, part_written}
+use Rattle.lab_engine.proofs.ReadSoFar.{items_append_lines, items_more}
 use Rattle.lab_engine.proofs.ReadableLemmas.{readable_items}
 use Rattle.lab_engine.proofs.ReportLemmas.{after_append, after_none, all_stays, counts_items, items_append, items_none}
 use Rattle.lab_engine.proofs.SeenLemmas.{SeenSoFar, more_counted, run_append, so_far_part}
@@ -108,16 +108,6 @@ module _ (items : List ScriptItem) (before between : PlayerView) (p : PlaysCalls
       } in
       so_far_part _ _ _ _ so_far (run between.state more) _ (run_append between.state more rest) seen stopped part
 
--- ---- a fault
-
--- a fault that leaves the count of the source as it was is no failed read
-pub not_a_read : (fault : Fault) (order : List Sent) (out out' trail trail' : SinkView) → StopsBy fault order (ends 0 out trail) (ends 0 out' trail') → fault ≡ Read → ⊥
-unfolding counted_by
-not_a_read fault order out out' trail trail' stop is =
-    let once = subst (λ q. faults_of (ends 0 out' trail') ≡ counted_by q (faults_of (ends 0 out trail))) is stop.one_fault in
-    let zero : 0 ≡ 1 = ap (λ (c : Counts). c.source) once in
-    absurd (omega (arith, zero))
-
 -- ---- a line
 
 -- what the contract of a line says of a player that no call has stopped
@@ -148,88 +138,81 @@ ready_again (Err fault) count items r r' s s' seen seen' stopped stopped' state 
 
 -- ---- a script
 module _ {H : Type 0} (at : H → PlayerView) (first : H) where
-  abbrev pub plays : ℕ → List ScriptItem → H → H → Type 0
-  plays count items a b = PlaysCalls count items (at a) (at b)
+  abbrev pub plays : ℕ → ScriptLine → H → H → Type 0
+  plays count line a b = PlaysCalls count (items_in line.says) (at a) (at b)
 
-  abbrev pub stops : ℕ → List ScriptItem → Fault → H → H → Type 0
-  stops count items fault a b = StopsCalls count items fault (at a) (at b)
+  abbrev pub stops : ℕ → ScriptLine → Fault → H → H → Type 0
+  stops count line fault a b = StopsCalls count (items_in line.says) fault (at a) (at b)
 
   -- the calls of lines that were played one after another
-  pub all_played : (items : List ScriptItem) (now : H) → Handled plays first items now → PlaysCalls 0 items (at first) (at now)
-  all_played items now NoLine = plays_none (at first)
-  all_played items now (NextLine before calls between last lines next) = plays_more before (at first) (at between) (all_played before between lines) calls (at last) next
+  pub all_played : (ls : List ScriptLine) (now : H) → Handled plays first ls now → PlaysCalls 0 (items_of_lines ls) (at first) (at now)
+  all_played ls now NoLine = plays_none (at first)
+  all_played ls now (NextLine before line between last lines next) =
+      subst (λ (items : List ScriptItem). PlaysCalls 0 items (at first) (at now)) (sym (items_more before line))
+      (plays_more (items_of_lines before) (at first) (at between) (all_played before between lines) (items_in line.says) (at now) next)
 
-  module _ (now : H) (m : Script) (source source' : SourceView) where
+  -- what is reported of lines
+  abbrev reported : List ScriptLine → List Sent
+  reported ls = items_reported (at first).report (at first).policy 0 (at first).state (items_of_lines ls)
+
+  lines_reported : WritesLines plays stops (λ h. (at h).out) (λ h. (at h).trail) first reported
+  lines_reported ls now handled source = (all_played ls now handled).sends source
+
+  line_cut : WritesPart plays stops (λ h. (at h).out) (λ h. (at h).trail) first reported
+  line_cut before line rest between now fault handled stopped source =
+      subst (λ (items : List ScriptItem). StopsBy fault (items_reported (at first).report (at first).policy 0 (at first).state items) (ends_at source (at first)) (ends_at source (at now))) (sym (items_append_lines before (line ∷ rest)))
+      (stops_later (items_of_lines before) (at first) (at between) (all_played before between handled) (items_in line.says) (items_of_lines rest) fault (at now) stopped source)
+
+  goes_on : (ls more : List ScriptLine) → Continues reported ls more
+  goes_on ls more =
+      let policy = (at first).policy in
+      let r = (at first).report in
+      let s = (at first).state in
+      record {
+        rest = items_reported (report_after r (run s (items_of_lines ls))) policy (0 + length (items_of_lines ls)) (state_after_run s (items_of_lines ls)) (items_of_lines more);
+        is = ap (items_reported r policy 0 s) (items_append_lines ls more) ∙ items_append policy r 0 s (items_of_lines ls) (items_of_lines more);
+      }
+
+  module _ (now : H) (m : ScriptLines) (source source' : SourceView) where
     -- the script was played to its end
     script_played : (p : Played) → HandlesAll plays m p source source' first now
-        → PlaysAll (at first).policy (at first).report (at now).report (at first).state (at now).state m source'.left p (ends_at source.faults (at first)) (ends_at source'.faults (at now))
+        → PlaysAll (at first).policy (at first).report (at now).report (at first).state (at now).state (script_of m) source'.left p (ends_at source.faults (at first)) (ends_at source'.faults (at now))
     script_played p h =
-        let all = all_played m.items now h.handled in
+        let all = all_played m.lines now h.handled in
         record {
           ending = h.ending;
           count = h.count;
           state = all.state;
           report = all.report;
-          sends = subst (λ n. SendsAll (items_reported (at first).report (at first).policy 0 (at first).state m.items) (ends_at source.faults (at first)) (ends_at n (at now))) (sym h.no_fault) (all.sends source.faults);
+          sends = all_written plays stops (λ h. (at h).out) (λ h. (at h).trail) first reported lines_reported source source' now m h.handled h.no_fault;
           readable = all.readable;
           to_the_end = h.to_the_end;
         }
 
-    -- a read failed, or memory ran out
-    stopped_between : (taken : Script) (fault : Fault) → StopsBetween plays m taken fault source source' first now
-        → StopsIn (at first).policy (at first).report (at first).state m taken fault (ends_at source.faults (at first)) (ends_at source'.faults (at now))
-    stopped_between taken fault h =
-        let all = all_played h.calls now h.handled in
-        let sent = all.sends source.faults in
-        let order = items_reported (at first).report (at first).policy 0 (at first).state in
-        let sends : Sends (order h.calls) (ends_at source.faults (at first)) (ends_at source'.faults (at now)) = record { to_out = sent.sends.to_out; to_trail = sent.sends.to_trail } in
-        record {
-          stops = record {
-            sends = record {
-              sent = order h.calls;
-              rest = items_reported (at now).report (at now).policy (length h.calls) (at now).state h.rest;
-              prefix = ap order h.prefix ∙ reported_later h.calls (at first) (at now) all h.rest;
-              sends = sends;
-            };
-            one_fault = h.one_fault (at now).out.faults (at now).trail.faults ∙ ap (counted_by fault) sent.no_fault;
-          };
-          by_line = λ read. subst (λ (items : List ScriptItem). Sends (order items) (ends_at source.faults (at first)) (ends_at source'.faults (at now))) (sym (h.by_line read)) sends;
-        }
-
-    -- a fault stopped a line
-    stopped_within : (taken : Script) (fault : Fault) → StopsWithin plays stops m fault source source' first now
-        → StopsIn (at first).policy (at first).report (at first).state m taken fault (ends_at source.faults (at first)) (ends_at source'.faults (at now))
-    stopped_within taken fault h =
-        let order = items_reported (at first).report (at first).policy 0 (at first).state in
-        let stop = stops_later h.before (at first) (at h.between) (all_played h.before h.between h.handled) h.calls h.rest fault (at now) h.stopped in
-        record {
-          stops = subst (λ n. StopsBy fault (order m.items) (ends_at source.faults (at first)) (ends_at n (at now))) (sym h.no_fault)
-              (subst (λ (items : List ScriptItem). StopsBy fault (order items) (ends_at source.faults (at first)) (ends_at source.faults (at now))) (sym h.prefix) (stop source.faults));
-          by_line = λ read. absurd (not_a_read fault (order (h.before ++ (h.calls ++ h.rest))) (at first).out (at now).out (at first).trail (at now).trail (stop 0) read);
-        }
-
     -- a fault stopped the script
-    stopped : (taken : Script) (fault : Fault) → StopsBetween plays m taken fault source source' first now ⊎ StopsWithin plays stops m fault source source' first now
-        → StopsIn (at first).policy (at first).report (at first).state m taken fault (ends_at source.faults (at first)) (ends_at source'.faults (at now))
-    stopped taken fault (inl h) = stopped_between taken fault h
-    stopped taken fault (inr h) = stopped_within taken fault h
+    script_stopped : (taken : ScriptLines) (fault : Fault) → StopsBetween plays m taken fault source source' first now ⊎ StopsWithin plays stops m fault source source' first now
+        → StopsIn (at first).policy (at first).report (at first).state (script_of m) (script_of taken) fault (ends_at source.faults (at first)) (ends_at source'.faults (at now))
+    script_stopped taken fault h =
+        let part = part_written plays stops (λ h. (at h).out) (λ h. (at h).trail) first reported lines_reported source source' now line_cut goes_on m taken fault h in
+        record { stops = part.stops; by_line = part.by_line }
 
-  abbrev PlaysFrom : PlayerView → Result Played Fault → (lines lines' : LinesState) (source source' : SourceView) → H → Type 0
-  PlaysFrom start result lines lines' source source' now = HandlesScript plays stops result start.policy lines lines' source source' first now
-      → PlaysScript result start.policy start.report (at now).report start.state (at now).state lines lines' source.left source'.left (ends_at source.faults start) (ends_at source'.faults (at now))
+  module _ (judge : Judge) where
+    abbrev PlaysFrom : PlayerView → Result Played Fault → (lines lines' : LinesState) (source source' : SourceView) → H → Type 0
+    PlaysFrom start result lines lines' source source' now = HandlesScript plays stops result judge start.policy lines lines' source source' first now
+        → PlaysScript result judge start.policy start.report (at now).report start.state (at now).state lines lines' source.left source'.left (ends_at source.faults start) (ends_at source'.faults (at now))
 
-  plays_first : (result : Result Played Fault) (lines lines' : LinesState) (source source' : SourceView) (now : H) → PlaysFrom (at first) result lines lines' source source' now
-  plays_first (Ok p) lines lines' source source' now h = record {
-    taken = h.taken;
-    takes = h.takes;
-    did = script_played now (script_at (at first).policy lines (h.taken ++ left_of source'.left)) source source' p h.did;
-  }
-  plays_first (Err fault) lines lines' source source' now h = record {
-    taken = h.taken;
-    takes = h.takes;
-    did = stopped now (script_at (at first).policy lines (h.taken ++ left_of source'.left)) source source' (script_at (at first).policy lines h.taken) fault h.did;
-  }
+    plays_first : (result : Result Played Fault) (lines lines' : LinesState) (source source' : SourceView) (now : H) → PlaysFrom (at first) result lines lines' source source' now
+    plays_first (Ok p) lines lines' source source' now h = record {
+      taken = h.taken;
+      takes = h.takes;
+      did = script_played now (lines_at judge (at first).policy lines (h.taken ++ left_of source'.left)) source source' p h.did;
+    }
+    plays_first (Err fault) lines lines' source source' now h = record {
+      taken = h.taken;
+      takes = h.takes;
+      did = script_stopped now (lines_at judge (at first).policy lines (h.taken ++ left_of source'.left)) source source' (lines_at judge (at first).policy lines h.taken) fault h.did;
+    }
 
-  -- a script whose lines were played by a player that began like this
-  pub plays_script : (start : PlayerView) → at first ≡ start → (result : Result Played Fault) (lines lines' : LinesState) (source source' : SourceView) (now : H) → PlaysFrom start result lines lines' source source' now
-  plays_script start is result lines lines' source source' now = subst (λ (v : PlayerView). PlaysFrom v result lines lines' source source' now) is (plays_first result lines lines' source source' now)
+    -- a script whose lines were played by a player that began like this
+    pub plays_script : (start : PlayerView) → at first ≡ start → (result : Result Played Fault) (lines lines' : LinesState) (source source' : SourceView) (now : H) → PlaysFrom start result lines lines' source source' now
+    plays_script start is result lines lines' source source' now = subst (λ (v : PlayerView). PlaysFrom v result lines lines' source source' now) is (plays_first result lines lines' source source' now)

@@ -1,5 +1,5 @@
 -- What each answer of a reader of lines says of the world, and of the script, that is left at it.
-use Rattle.std.proofs.Common.{◌≡◌, ◌⊎◌, inl, inr, ℕ, ◌+◌, ◌≤◌, ◌<◌, Bool, true, false, cond, zero, suc, List, [], ◌∷◌, ◌++◌, length, take, refl, sym, ◌∙◌, ap, subst, arith, Option, None}
+use Rattle.std.proofs.Common.{◌≡◌, ◌⊎◌, inl, inr, ℕ, ◌+◌, ◌≤◌, ◌<◌, Bool, true, false, cond, zero, suc, List, [], ◌∷◌, ◌++◌, length, take, refl, sym, ◌∙◌, ap, subst, arith, Option, None, Some}
 use Rattle.std.proofs.lemmas.Bool.{le-ltb, lt-ltb}
 use Rattle.std.proofs.lemmas.List.{take_all}
 use Rattle.std.specs.Prelude.{nat_lt, IsErrAnd, Result, Ok, Err}
@@ -42,8 +42,8 @@ use Rattle.lab_engine.specs.declared.reading.NextLine.TheVariants as next_is
 use Rattle.lab_engine.specs.declared.reading.WorldLine.{WorldLine}
 use Rattle.lab_engine.specs.declared.reading.WorldLine.TheVariants as world_line_is
 use Rattle.lab_engine.specs.Counts.{CountsOnce, counted_by, counts, fault_of_read}
-use Rattle.lab_engine.specs.Input.{Begun, Judge, NoWorld, ScriptLines, after_line, begun_by, ends_at, input_from, items_of_lines, last_piece, lines_at, lines_from, taken_lines, takes_all}
-use Rattle.lab_engine.specs.Reading.{Accepts, BeginsWith, EndsScript, EndsWorld, Follows, GoesOn, ReadsLine, Takes, begun_at, left_of, script_at, script_left}
+use Rattle.lab_engine.specs.Input.{Begun, Judge, NoWorld, ScriptLines, after_line, begun_by, ends_at, input_from, judged, last_piece, lines_from, script_line, taken_lines}
+use Rattle.lab_engine.specs.Reading.{Accepts, BeginsWith, EndsScript, EndsWorld, Follows, GoesOn, ReadsLine, Takes, begun_at, left_of, lines_at, script_left}
 use Rattle.lab_engine.proofs.LeftLemmas.{left_failed, left_line, left_long, left_part, left_past, read_left}
 use Rattle.lab_engine.proofs.FewCalls.{few_calls}
 
@@ -154,26 +154,37 @@ module _ (before now : LinesState) (got : List ℕ) (number : now.number ≡ bef
         ∙ script_more judge (over more) policy now.number now.line (left more) first.0 first.1 first.2
         ∙ ap (λ (r : Result Line LineError). after_line judge r now.number now.line (lines_from judge (over more) policy (now.number + 1) (left more))) is
 
-    pub line_begins : (policy : PolicyNames) (l : Line) → script_lines.parse_line policy now.line ≡ Ok l → MayBePlayed (top_of policy) l → BeginsWith policy before now got l
-    line_begins policy l is calls = record {
-      says = λ judge rest. lines_begin judge policy (Ok l) is rest;
+    -- a line that can be read, as a judge finds
+    line_judged : (judge : Judge) (policy : PolicyNames) (l : Line) → script_lines.parse_line policy now.line ≡ Ok l → (found : Option LineFault) → found ≡ judge l → (more : List ℕ)
+        → lines_at judge policy before (got ++ more) ≡ judged found now.number (script_line now.line l) (lines_at judge policy now more)
+    line_judged judge policy l is found by more = lines_begin judge policy (Ok l) is more ∙ ap (λ v. judged v now.number (script_line now.line l) (lines_at judge policy now more)) (sym by)
+
+    pub line_begins : (judge : Judge) (policy : PolicyNames) (l : Line) → script_lines.parse_line policy now.line ≡ Ok l → None ≡ judge l → MayBePlayed (top_of policy) l → BeginsWith judge policy before now got l
+    line_begins judge policy l is none calls = record {
+      says = λ rest. line_judged judge policy l is None none rest;
       number = omega (arith, number);
       calls = calls;
       more = gives.more;
       fewer = omega (arith, gives.room_is, few_calls policy now.line l is calls);
     }
 
-    module _ (policy : PolicyNames) (left : Option (List ℕ)) where
-      by_word : (why : LineFault) {word : LineFault} → why ≡ word → EndsScript policy before left got (Refused now.number part.Script word) → EndsScript policy before left got (Refused now.number part.Script why)
-      by_word why is ends = subst (λ (w : LineFault). EndsScript policy before left got (Refused now.number part.Script w)) (sym is) ends
-
-      refused_line : (e : LineError) → script_lines.parse_line policy now.line ≡ Err e → EndsScript policy before left got (Refused now.number part.Script (fault_of e))
-      refused_line e is = record {
-        says = λ judge. lines_begin judge policy (Err e) is (left_of left);
+    module _ (judge : Judge) (policy : PolicyNames) (left : Option (List ℕ)) where
+      pub line_refused_for : (l : Line) → script_lines.parse_line policy now.line ≡ Ok l → (why : LineFault) → Some why ≡ judge l → EndsScript judge policy before left got (Refused now.number part.Script why)
+      line_refused_for l is why by = record {
+        says = line_judged judge policy l is (Some why) by (left_of left);
         to_the_end = λ h. absurd (cc);
       }
 
-      pub line_refused_by : (e : LineError) (why : LineFault) → IsFaultOf e why → IsCause (script_lines.parse_line policy now.line) e → EndsScript policy before left got (Refused now.number part.Script why)
+      by_word : (why : LineFault) {word : LineFault} → why ≡ word → EndsScript judge policy before left got (Refused now.number part.Script word) → EndsScript judge policy before left got (Refused now.number part.Script why)
+      by_word why is ends = subst (λ (w : LineFault). EndsScript judge policy before left got (Refused now.number part.Script w)) (sym is) ends
+
+      refused_line : (e : LineError) → script_lines.parse_line policy now.line ≡ Err e → EndsScript judge policy before left got (Refused now.number part.Script (fault_of e))
+      refused_line e is = record {
+        says = lines_begin judge policy (Err e) is (left_of left);
+        to_the_end = λ h. absurd (cc);
+      }
+
+      pub line_refused_by : (e : LineError) (why : LineFault) → IsFaultOf e why → IsCause (script_lines.parse_line policy now.line) e → EndsScript judge policy before left got (Refused now.number part.Script why)
       line_refused_by (error.NoMemory m) why word is = absurd word
       line_refused_by error.TooLong why word is = by_word why word (refused_line error.TooLong is)
       line_refused_by error.Syntax why word is = by_word why word (refused_line error.Syntax is)
@@ -196,13 +207,13 @@ module _ (before now : LinesState) (got : List ℕ) (number : now.number ≡ bef
     unfolding begun_at
     world_unended e = record { says = left_part (world_by e) before now got number holds le left end ∙ world_last e false now.number text; to_the_end = λ h. absurd (cc) }
 
-    script_ended : (policy : PolicyNames) (ending : InputEnd) → last_piece false now.number text ≡ ending → (judge : Judge) → lines_at judge policy before (got ++ left_of left) ≡ taken_lines [] ending
-    script_ended policy ending ends judge = last_left judge policy (got ++ left_of left) false text (left_part (script_by judge policy) before now got number holds le left end) ending ends
+    script_ended : (judge : Judge) (policy : PolicyNames) (ending : InputEnd) → last_piece false now.number text ≡ ending → lines_at judge policy before (got ++ left_of left) ≡ taken_lines [] ending
+    script_ended judge policy ending ends = last_left judge policy (got ++ left_of left) false text (left_part (script_by judge policy) before now got number holds le left end) ending ends
 
-    pub script_unended : (policy : PolicyNames) → 0 < length text → EndsScript policy before left got (Refused now.number part.Script fault.Syntax)
-    script_unended policy some =
+    pub script_unended : (judge : Judge) (policy : PolicyNames) → 0 < length text → EndsScript judge policy before left got (Refused now.number part.Script fault.Syntax)
+    script_unended judge policy some =
         let short : length text ≤ MAX_LINE = subst (λ (t : List ℕ). length t ≤ MAX_LINE) (take_all before.room text le) holds.short in
-        record { says = script_ended policy _ (unended_piece text some short); to_the_end = λ h. absurd (cc) }
+        record { says = script_ended judge policy _ (unended_piece text some short); to_the_end = λ h. absurd (cc) }
       where
         unended_piece : (t : List ℕ) → 0 < length t → length t ≤ MAX_LINE → last_piece false now.number t ≡ Refused now.number part.Script fault.Syntax
         unended_piece [] some short = absurd (omega (arith, some))
@@ -219,9 +230,9 @@ module _ (before now : LinesState) (got : List ℕ) (number : now.number ≡ bef
     pub world_ends : (e : Expecting) → EndsWorld e before left got (Refused now.number part.World fault.Syntax)
     world_ends e = world_unended (empty_part none) le left end e
 
-    pub script_ends : (policy : PolicyNames) → EndsScript policy before left got Whole
-    script_ends policy = record {
-      says = script_ended (empty_part none) le left end policy Whole (ap (λ (t : List ℕ). last_piece false now.number t) none);
+    pub script_ends : (judge : Judge) (policy : PolicyNames) → EndsScript judge policy before left got Whole
+    script_ends judge policy = record {
+      says = script_ended (empty_part none) le left end judge policy Whole (ap (λ (t : List ℕ). last_piece false now.number t) none);
       to_the_end = λ h. end;
     }
 
@@ -236,9 +247,9 @@ module _ (before now : LinesState) (got : List ℕ) (number : now.number ≡ bef
       to_the_end = λ h. absurd (cc);
     }
 
-    pub script_too_much : (policy : PolicyNames) → EndsScript policy before left got TooMuch
-    script_too_much policy = record {
-      says = λ judge. last_left judge policy (got ++ left_of left) true (take before.room text) (left_past (script_by judge policy) before now got number holds past left) TooMuch (cut _ (take before.room text) holds.short);
+    pub script_too_much : (judge : Judge) (policy : PolicyNames) → EndsScript judge policy before left got TooMuch
+    script_too_much judge policy = record {
+      says = last_left judge policy (got ++ left_of left) true (take before.room text) (left_past (script_by judge policy) before now got number holds past left) TooMuch (cut _ (take before.room text) holds.short);
       to_the_end = λ h. absurd (cc);
     }
 
@@ -267,10 +278,10 @@ module _ (before now : LinesState) (got : List ℕ) (number : now.number ≡ bef
         let first = left_long (world_by e) before now got number long left in
         record { says = first.4 ∙ world_by_pieces first.0 e first.1 first.2 first.3; to_the_end = λ h. absurd (cc) }
 
-    pub script_long_line : (policy : PolicyNames) → EndsScript policy before left got (Refused now.number part.Script fault.TooLong)
+    pub script_long_line : (judge : Judge) (policy : PolicyNames) → EndsScript judge policy before left got (Refused now.number part.Script fault.TooLong)
     unfolding lines_at
-    script_long_line policy = record {
-      says = λ judge. let first = left_long (script_by judge policy) before now got number long left in first.4 ∙ script_by_pieces judge first.0 policy first.1 first.2 first.3;
+    script_long_line judge policy = record {
+      says = let first = left_long (script_by judge policy) before now got number long left in first.4 ∙ script_by_pieces judge first.0 policy first.1 first.2 first.3;
       to_the_end = λ h. absurd (cc);
     }
 
@@ -280,9 +291,9 @@ module _ (before now : LinesState) (got : List ℕ) (number : now.number ≡ bef
     unfolding begun_at
     failed_world e = ap (λ (b : Begun). (input_from b).accepted) (left_failed (world_by e) before now got number holds ∙ world_last e (nat_lt before.room (length text)) now.number (take before.room text))
 
-    pub failed_script : (policy : PolicyNames) → (script_at policy before got).items ≡ []
+    pub failed_script : (judge : Judge) (policy : PolicyNames) → (lines_at judge policy before got).lines ≡ []
     unfolding lines_at
-    failed_script policy = ap (λ (m : ScriptLines). items_of_lines m.lines) (left_failed (script_by takes_all policy) before now got number holds ∙ script_last takes_all policy (nat_lt before.room (length text)) now.number (take before.room text))
+    failed_script judge policy = ap (λ (m : ScriptLines). m.lines) (left_failed (script_by judge policy) before now got number holds ∙ script_last judge policy (nat_lt before.room (length text)) now.number (take before.room text))
 
 -- ---- what a step leaves
 module _ (before now : LinesState) (left left' : Option (List ℕ)) where
@@ -295,10 +306,10 @@ module _ (before now : LinesState) (left left' : Option (List ℕ)) where
   line_fails (Err fault) e read.Failed is a = record { taken = a.got; takes = step_takes a; shows = λ _. failed_world before now a.got a.number a.answers.1 e }
   line_fails (Err fault) e read.NoMemory is a = absurd a.answers
 
-  pub next_fails : (r : Result NextLine Fault) (policy : PolicyNames) (error : ReadError) → IsErrAnd r (λ q. q ≡ fault_of_read error) → Advances (Err error) before now left left' → Follows r policy before now left left'
-  next_fails (Ok line) policy error is a = absurd is
-  next_fails (Err fault) policy read.Failed is a = record { taken = a.got; takes = step_takes a; shows = λ _. failed_script before now a.got a.number a.answers.1 policy }
-  next_fails (Err fault) policy read.NoMemory is a = absurd a.answers
+  pub next_fails : (r : Result NextLine Fault) (judge : Judge) (policy : PolicyNames) (error : ReadError) → IsErrAnd r (λ q. q ≡ fault_of_read error) → Advances (Err error) before now left left' → Follows r judge policy before now left left'
+  next_fails (Ok line) judge policy error is a = absurd is
+  next_fails (Err fault) judge policy read.Failed is a = record { taken = a.got; takes = step_takes a; shows = λ _. failed_script before now a.got a.number a.answers.1 judge policy }
+  next_fails (Err fault) judge policy read.NoMemory is a = absurd a.answers
 
   module _ (next : Next) (a : Advances (Ok next) before now left left') where
     answers : (n : Next) → next ≡ n → Answers n (before.held ++ a.got) before.room now left'
@@ -307,8 +318,8 @@ module _ (before now : LinesState) (left left' : Option (List ℕ)) where
     ended_line : (e : Expecting) (ending : InputEnd) → EndsWorld e before left' a.got ending → (is : InputEnd) → is ≡ ending → ReadsLine (Ok (world_line_is.Ended is)) e before now left left'
     ended_line e ending ends is same = record { taken = a.got; takes = step_takes a; shows = subst (EndsWorld e before left' a.got) (sym same) ends }
 
-    ended_next : (policy : PolicyNames) (ending : InputEnd) → EndsScript policy before left' a.got ending → (is : InputEnd) → is ≡ ending → Follows (Ok (next_is.Ended is)) policy before now left left'
-    ended_next policy ending ends is same = record { taken = a.got; takes = step_takes a; shows = subst (EndsScript policy before left' a.got) (sym same) ends }
+    ended_next : (judge : Judge) (policy : PolicyNames) (ending : InputEnd) → EndsScript judge policy before left' a.got ending → (is : InputEnd) → is ≡ ending → Follows (Ok (next_is.Ended is)) judge policy before now left left'
+    ended_next judge policy ending ends is same = record { taken = a.got; takes = step_takes a; shows = subst (EndsScript judge policy before left' a.got) (sym same) ends }
 
     -- a line was given
     module _ (given : next ≡ next_line.Line) (line : List ℕ) (line_is_now : line ≡ now.line) where
@@ -328,13 +339,20 @@ module _ (before now : LinesState) (left left' : Option (List ℕ)) where
         pub reads_refused : (why : LineFault) → parsed ≡ Refuses why → (ending : InputEnd) → ending ≡ Refused now.number part.World why → ReadsLine (Ok (world_line_is.Ended ending)) e before now left left'
         reads_refused why refuses ending same = ended_line e (Refused now.number part.World why) (line_refused before now a.got a.number gives e parsed as_now why refuses left') ending same
 
-      module _ (policy : PolicyNames) where
-        pub follows_line : (l : Line) → script_lines.parse_line policy line ≡ Ok l → MayBePlayed (top_of policy) l → Follows (Ok (next_is.Line l)) policy before now left left'
-        follows_line l is calls = record { taken = a.got; takes = step_takes a; shows = line_begins before now a.got a.number gives policy l (ap (script_lines.parse_line policy) (sym line_is_now) ∙ is) calls }
+      module _ (judge : Judge) (policy : PolicyNames) where
+        module _ (l : Line) (is : script_lines.parse_line policy line ≡ Ok l) where
+          says_now : script_lines.parse_line policy now.line ≡ Ok l
+          says_now = ap (script_lines.parse_line policy) (sym line_is_now) ∙ is
 
-        pub follows_refused : (e : LineError) (why : LineFault) → IsFaultOf e why → IsCause (script_lines.parse_line policy line) e → (ending : InputEnd) → ending ≡ Refused now.number part.Script why → Follows (Ok (next_is.Ended ending)) policy before now left left'
-        follows_refused e why word is ending same = ended_next policy (Refused now.number part.Script why)
-            (line_refused_by before now a.got a.number gives policy left' e why word (subst (λ (l : List ℕ). IsCause (script_lines.parse_line policy l) e) line_is_now is)) ending same
+          pub follows_line : MayBePlayed (top_of policy) l → None ≡ judge l → Follows (Ok (next_is.Line l)) judge policy before now left left'
+          follows_line calls none = record { taken = a.got; takes = step_takes a; shows = line_begins before now a.got a.number gives judge policy l says_now none calls }
+
+          pub follows_judged : (why : LineFault) → Some why ≡ judge l → (ending : InputEnd) → ending ≡ Refused now.number part.Script why → Follows (Ok (next_is.Ended ending)) judge policy before now left left'
+          follows_judged why by ending same = ended_next judge policy (Refused now.number part.Script why) (line_refused_for before now a.got a.number gives judge policy left' l says_now why by) ending same
+
+        pub follows_refused : (e : LineError) (why : LineFault) → IsFaultOf e why → IsCause (script_lines.parse_line policy line) e → (ending : InputEnd) → ending ≡ Refused now.number part.Script why → Follows (Ok (next_is.Ended ending)) judge policy before now left left'
+        follows_refused e why word is ending same = ended_next judge policy (Refused now.number part.Script why)
+            (line_refused_by before now a.got a.number gives judge policy left' e why word (subst (λ (l : List ℕ). IsCause (script_lines.parse_line policy l) e) line_is_now is)) ending same
 
     -- no line was given
     pub reads_too_much : next ≡ next_line.TooMuch → (e : Expecting) → ReadsLine (Ok (world_line_is.Ended TooMuch)) e before now left left'
@@ -345,17 +363,17 @@ module _ (before now : LinesState) (left left' : Option (List ℕ)) where
     reads_no_line (inr (inl is)) e ending same = let x = answers next_line.Unended is in ended_line e _ (world_unended before now a.got a.number x.1 x.3 left' x.4 e) ending same
     reads_no_line (inr (inr is)) e ending same = let x = answers next_line.LongLine is in ended_line e _ (world_long_line before now a.got a.number x.1 left' e) ending same
 
-    pub follows_end : next ≡ next_line.End → (policy : PolicyNames) → Follows (Ok (next_is.Ended Whole)) policy before now left left'
-    follows_end is policy = let x = answers next_line.End is in ended_next policy Whole (script_ends before now a.got a.number x.1 left' x.2 policy) Whole refl
+    pub follows_end : next ≡ next_line.End → (judge : Judge) (policy : PolicyNames) → Follows (Ok (next_is.Ended Whole)) judge policy before now left left'
+    follows_end is judge policy = let x = answers next_line.End is in ended_next judge policy Whole (script_ends before now a.got a.number x.1 left' x.2 judge policy) Whole refl
 
-    pub follows_unended : next ≡ next_line.Unended → (policy : PolicyNames) (ending : InputEnd) → ending ≡ Refused now.number part.Script fault.Syntax → Follows (Ok (next_is.Ended ending)) policy before now left left'
-    follows_unended is policy ending same = let x = answers next_line.Unended is in ended_next policy _ (script_unended before now a.got a.number x.1 x.3 left' x.4 policy x.2) ending same
+    pub follows_unended : next ≡ next_line.Unended → (judge : Judge) (policy : PolicyNames) (ending : InputEnd) → ending ≡ Refused now.number part.Script fault.Syntax → Follows (Ok (next_is.Ended ending)) judge policy before now left left'
+    follows_unended is judge policy ending same = let x = answers next_line.Unended is in ended_next judge policy _ (script_unended before now a.got a.number x.1 x.3 left' x.4 judge policy x.2) ending same
 
-    pub follows_long_line : next ≡ next_line.LongLine → (policy : PolicyNames) (ending : InputEnd) → ending ≡ Refused now.number part.Script fault.TooLong → Follows (Ok (next_is.Ended ending)) policy before now left left'
-    follows_long_line is policy ending same = let x = answers next_line.LongLine is in ended_next policy _ (script_long_line before now a.got a.number x.1 left' policy) ending same
+    pub follows_long_line : next ≡ next_line.LongLine → (judge : Judge) (policy : PolicyNames) (ending : InputEnd) → ending ≡ Refused now.number part.Script fault.TooLong → Follows (Ok (next_is.Ended ending)) judge policy before now left left'
+    follows_long_line is judge policy ending same = let x = answers next_line.LongLine is in ended_next judge policy _ (script_long_line before now a.got a.number x.1 left' judge policy) ending same
 
-    pub follows_too_much : next ≡ next_line.TooMuch → (policy : PolicyNames) → Follows (Ok (next_is.Ended TooMuch)) policy before now left left'
-    follows_too_much is policy = let x = answers next_line.TooMuch is in ended_next policy TooMuch (script_too_much before now a.got a.number x.1 x.2 left' policy) TooMuch refl
+    pub follows_too_much : next ≡ next_line.TooMuch → (judge : Judge) (policy : PolicyNames) → Follows (Ok (next_is.Ended TooMuch)) judge policy before now left left'
+    follows_too_much is judge policy = let x = answers next_line.TooMuch is in ended_next judge policy TooMuch (script_too_much before now a.got a.number x.1 x.2 left' judge policy) TooMuch refl
 
 -- a fault that is counted once
 pub counts_failed : {T : Type 0} (r : Result T Fault) (error : ReadError) → IsErrAnd r (λ q. q ≡ fault_of_read error) → (n n' : ℕ) → CountsRead {T = Next} (Err error) n n' → (o t : ℕ) → CountsOnce r (counts n o t) (counts n' o t)

@@ -9,7 +9,7 @@ use Rattle.kern_model.specs.Step.{step}
 use Rattle.lab_lattice.specs.Label.{Label}
 use Rattle.lab_text.specs.Policy.{PolicyNames}
 use Rattle.lab_engine.specs.declared.reporting.Report.{Report}
-use Rattle.lab_engine.specs.declared.reporting.Report.TheVariants.{All, Below, Crossed, Counted}
+use Rattle.lab_engine.specs.declared.reporting.Report.TheVariants.{All, Below, Crossed, Counted, Named}
 use Rattle.lab_engine.specs.Order.{Sent, call_order}
 use Rattle.lab_engine.specs.Playing.{items_order}
 use Rattle.lab_engine.specs.Report.{CountsAtMost, call_sends, is_denied, is_done, is_refused, items_reported, report_after, report_after_call, sends_from}
@@ -59,6 +59,7 @@ counts_longer n m All le few = tt
 counts_longer n m (Below l k) le few = omega (arith, le, few)
 counts_longer n m Crossed le few = tt
 counts_longer n m (Counted t) le few = (omega (arith, le, few.0), omega (arith, le, few.1), omega (arith, le, few.2))
+counts_longer n m (Named caps) le few = tt
 
 one_more : (b : Bool) (k n : ℕ) → k ≤ n → k + (0 + cond b 1 0) ≤ n + 1
 one_more true k n le = omega (arith, le)
@@ -75,6 +76,7 @@ counts_call n All p few = tt
 counts_call n (Below l k) p few = one_below (any_crosses l p.recs) (low l p.who.label) l k n few
 counts_call n Crossed p few = tt
 counts_call n (Counted t) p few = (one_more (is_done p.reply) t.ok n few.0, one_more (is_denied p.reply) t.denied n few.1, one_more (is_refused p.reply) t.refused n few.2)
+counts_call n (Named caps) p few = tt
 
 pub counts_items : (n : ℕ) (r : Report) (s : State) (is : List ScriptItem) → CountsAtMost n r → CountsAtMost (n + length is) (report_after r (run s is))
 unfolding report_after

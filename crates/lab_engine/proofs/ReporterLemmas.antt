@@ -10,6 +10,7 @@ use Rattle.lab_text.specs.Policy.{PolicyNames}
 use Rattle.lab_engine.specs.declared.ending.Fault.{Fault}
 use Rattle.lab_engine.specs.declared.playing.Played.{Played}
 use Rattle.lab_engine.specs.declared.reporting.Report.{Report}
+use Rattle.lab_engine.specs.Input.{Judge}
 use Rattle.lab_engine.specs.Playing.{Ends, PlaysScript}
 use Rattle.lab_engine.specs.Report.{call_sends, items_reported, report_after_call}
 use Rattle.lab_engine.proofs.ReportLemmas.{items_left}
@@ -21,7 +22,7 @@ module _ (policy now : PolicyNames) (same : now ≡ policy) where
   left_now r r' count s next i is items e kept state =
       items_left policy r r' count s next i is items e kept state ∙ ap (λ (p : PolicyNames). call_sends r p (count + 1) (item_record s i) ++ items_reported r' policy (count + 1) next is) (sym same)
 
-  module _ (r0 r : Report) (s0 s : State) (lines0 lines : LinesState) (left0 left : Option (List ℕ)) (before after : Ends) where
+  module _ (judge : Judge) (r0 r : Report) (s0 s : State) (lines0 lines : LinesState) (left0 left : Option (List ℕ)) (before after : Ends) where
     -- what is kept at the start is given too
-    pub plays_from : (q : Report) → q ≡ r0 → (result : Result Played Fault) → PlaysScript result now q r s0 s lines0 lines left0 left before after → PlaysScript result policy r0 r s0 s lines0 lines left0 left before after
-    plays_from q is result p = subst (λ (names : PolicyNames). PlaysScript result names r0 r s0 s lines0 lines left0 left before after) same (subst (λ (x : Report). PlaysScript result now x r s0 s lines0 lines left0 left before after) is p)
+    pub plays_from : (q : Report) → q ≡ r0 → (result : Result Played Fault) → PlaysScript result judge now q r s0 s lines0 lines left0 left before after → PlaysScript result judge policy r0 r s0 s lines0 lines left0 left before after
+    plays_from q is result p = subst (λ (names : PolicyNames). PlaysScript result judge names r0 r s0 s lines0 lines left0 left before after) same (subst (λ (x : Report). PlaysScript result judge now x r s0 s lines0 lines left0 left before after) is p)

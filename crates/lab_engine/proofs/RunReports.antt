@@ -3,12 +3,19 @@ use Rattle.std.proofs.Common.{◌≡◌, ℕ, ◌+◌, Bool, true, false, ◌||�
 use Rattle.std.proofs.lemmas.List.{append-nil}
 use Rattle.std.proofs.lemmas.List.Sums.{sum_by-cons}
 use Rattle.std.specs.List.{flat_map, sum_by}
+use Rattle.cap_bits.specs.CapSet.{CapSet, has, no_caps, union_of}
 use Rattle.kern_model.specs.Isolation.{any_crosses, low, up_to}
 use Rattle.kern_model.specs.Run.{CallRecord}
 use Rattle.lab_lattice.specs.Label.{Label}
 use Rattle.lab_text.specs.Policy.{PolicyNames}
-use Rattle.lab_engine.specs.declared.reporting.Report.TheVariants.{Below, Crossed, Counted}
+use Rattle.least_caps.specs.Named.{named}
+use Rattle.least_caps.proofs.Unions.{named-append}
+use Rattle.cap_bits.specs.Laws.{same_caps}
+use Rattle.cap_bits.proofs.CapSets.{has-no_caps, has-union_of}
+use Rattle.std.proofs.Math.Bool.{or_assoc, or-false}
+use Rattle.lab_engine.specs.declared.reporting.Report.TheVariants.{Below, Crossed, Counted, Named}
 use Rattle.lab_engine.specs.declared.reporting.Tally.{Tally}
+use Rattle.lab_engine.specs.Least.{named_by, recs_of}
 use Rattle.lab_engine.specs.Order.{Sent, to_out}
 use Rattle.lab_engine.specs.Report.{call_sends, crossed_line, exercises, is_denied, is_done, is_refused, report_after, sends_from, tally_of}
 use Rattle.lab_engine.specs.Viewing.{low_calls, some_crosses}
@@ -118,3 +125,25 @@ pub counted_after : (t : Tally) (calls : List CallRecord) → report_after (Coun
 unfolding report_after
 counted_after t [] = ap (λ (u : Tally). Counted u) (tally_none t)
 counted_after t (p ∷ ps) = counted_after (tally_of t (p ∷ [])) ps ∙ ap (λ (u : Tally). Counted u) (tally_more t p ps)
+
+-- ---- capabilities
+
+-- no capability besides
+union_none : (a : CapSet) → a ≡ union_of a no_caps
+union_none a = same_caps _ _ (λ c. sym (has-union_of a no_caps c ∙ ap (λ b. has a c || b) (has-no_caps c) ∙ or-false (has a c)))
+
+union_more : (a b c : CapSet) → union_of (union_of a b) c ≡ union_of a (union_of b c)
+union_more a b c = same_caps _ _ (λ q.
+    has-union_of (union_of a b) c q ∙ ap (λ v. v || has c q) (has-union_of a b q) ∙ or_assoc (has a q) (has b q) (has c q)
+    ∙ sym (has-union_of a (union_of b c) q ∙ ap (λ v. has a q || v) (has-union_of b c q)))
+
+named_besides : (caps : CapSet) (calls : List CallRecord) → report_after (Named caps) calls ≡ Named (union_of caps (named_by calls))
+unfolding report_after
+named_besides caps [] = ap (λ (s : CapSet). Named s) (union_none caps)
+named_besides caps (p ∷ ps) =
+    named_besides (union_of caps (named p.recs)) ps
+    ∙ ap (λ (s : CapSet). Named s) (union_more caps (named p.recs) (named_by ps) ∙ ap (union_of caps) (sym (named-append p.recs (recs_of ps))))
+
+-- the capabilities that calls name, where none was named before
+pub named_after : (calls : List CallRecord) → report_after (Named no_caps) calls ≡ Named (named_by calls)
+named_after calls = named_besides no_caps calls ∙ ap (λ (s : CapSet). Named s) (same_caps _ _ (λ c. has-union_of no_caps (named_by calls) c ∙ ap (λ b. b || has (named_by calls) c) (has-no_caps c)))

@@ -1,5 +1,5 @@
 -- Bytes that are sent one after another, each to its sink, and what a function leaves that sends them.
-use Rattle.std.proofs.Common.{◌≡◌, ℕ, ◌+◌, ◌<◌, ◌≤◌, List, [], ◌∷◌, ◌++◌, length, take, drop, get_or, refl, sym, ◌∙◌, ap, subst, append_assoc}
+use Rattle.std.proofs.Common.{◌≡◌, ℕ, ◌+◌, ◌<◌, ◌≤◌, List, [], ◌∷◌, ◌++◌, length, take, drop, get_or, refl, sym, ◌∙◌, ap, subst, append_assoc, arith}
 use Rattle.std.proofs.lemmas.List.{append-nil, take-append-drop, take_all, take_more, drop_more, map-append}
 use Rattle.std.proofs.lemmas.Grind.{flat_map-append}
 use Rattle.std.specs.Prelude.{Result, IsErrAnd, Ok, Err}
@@ -9,10 +9,10 @@ use Rattle.std.proofs.KnownBytes.{Appends-nil, Appends-trans}
 use Rattle.io_ends.specs.Faults.{AppendsPart, next_count}
 use Rattle.io_ends.specs.Ends.{SinkView}
 use Rattle.lab_engine.specs.declared.ending.Fault.{Fault}
-use Rattle.lab_engine.specs.declared.ending.Fault.TheVariants.{Write, Trail, NoMemory}
-use Rattle.lab_engine.specs.Counts.{counts, counted_by}
+use Rattle.lab_engine.specs.declared.ending.Fault.TheVariants.{Read, Write, Trail, NoMemory}
+use Rattle.lab_engine.specs.Counts.{Counts, counts, counted_by}
 use Rattle.lab_engine.specs.Order.{Sent, ToOut, ToTrail, out_of, trail_of, to_out, to_trail}
-use Rattle.lab_engine.specs.Playing.{Ends, ends, Sends, SendsPrefix, SendsAll, StopsBy, Writes}
+use Rattle.lab_engine.specs.Playing.{Ends, ends, faults_of, Sends, SendsPrefix, SendsAll, StopsBy, Writes}
 
 -- ---- orders
 
@@ -109,6 +109,14 @@ stops_after fault a b e f g x s = record { sends = prefix_after a b e f g x.send
 pub stops_at_once : (order : List Sent) (e : Ends) → StopsBy NoMemory order e e
 unfolding counted_by
 stops_at_once order e = record { sends = prefix_nothing order e.source e.source e.out e.trail; one_fault = refl }
+
+-- a fault that leaves the count of the source as it was is no failed read
+pub not_a_read : (fault : Fault) (order : List Sent) (out out' trail trail' : SinkView) → StopsBy fault order (ends 0 out trail) (ends 0 out' trail') → fault ≡ Read → ⊥
+unfolding counted_by
+not_a_read fault order out out' trail trail' stop is =
+    let once = subst (λ q. faults_of (ends 0 out' trail') ≡ counted_by q (faults_of (ends 0 out trail))) is stop.one_fault in
+    let zero : 0 ≡ 1 = ap (λ (c : Counts). c.source) once in
+    absurd (omega (arith, zero))
 
 -- ---- what a function leaves
 

@@ -1,8 +1,6 @@
 -- The meaning of an input: its world, its script up to the first refused line, and how it ends.
-use Rattle.std.specs.Prelude.{ℕ, ◌+◌, Bool, true, false, cond, nat_lt, List, [], ◌∷◌, ◌++◌, length, take, Option, Some, None, Result, Ok, Err}
+use Rattle.std.specs.Prelude.{ℕ, ◌+◌, Bool, true, false, cond, nat_lt, List, [], ◌∷◌, length, take, Option, Some, None, Result, Ok, Err}
 use Rattle.std.specs.List.{flat_map}
-use Rattle.fs_path.specs.Split.{pieces}
-use Rattle.io_ends.specs.LinesState.{LinesState}
 use Rattle.kern_model.specs.declared.calls.Call.{Call}
 use Rattle.kern_model.specs.declared.numbers.Pid.{Pid}
 use Rattle.kern_model.specs.declared.world.ScriptItem.{ScriptItem}
@@ -117,10 +115,6 @@ unfoldable pub lines_from : Judge → Bool → PolicyNames → ℕ → List (Lis
 lines_from judge over policy n [] = taken_lines [] Whole
 lines_from judge over policy n (last ∷ []) = taken_lines [] (last_piece over n last)
 lines_from judge over policy n (line ∷ next ∷ ls) = after_line judge (parse_line policy line) n line (lines_from judge over policy (n + 1) (next ∷ ls))
-
--- the lines that are left at a reader, where these bytes come after those that it holds
-unfoldable pub lines_at : Judge → PolicyNames → LinesState → List ℕ → ScriptLines
-lines_at judge policy s more = lines_from judge (nat_lt s.room (length (s.held ++ more))) policy (s.number + 1) (pieces 10 (take s.room (s.held ++ more)))
 
 -- the calls of lines
 abbrev pub items_of_lines : List ScriptLine → List ScriptItem

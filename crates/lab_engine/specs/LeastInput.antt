@@ -1,7 +1,5 @@
 -- What an input is whose capabilities are narrowed: its world, its script up to the first line that is refused or asks for capability sets, and how it ends.
 use Rattle.std.specs.Prelude.{Bool, true, false, cond, List, ℕ, Some, None}
-use Rattle.io_ends.specs.LinesState.{LinesState}
-use Rattle.lab_text.specs.Policy.{PolicyNames}
 use Rattle.least_caps.specs.Asks.{asks}
 use Rattle.line_text.specs.declared.fault.LineFault.TheVariants as fault
 use Rattle.script_text.specs.declared.line.Line.{Line}
@@ -10,7 +8,7 @@ use Rattle.sec_utils.specs.declared.util.Tool.{Tool}
 use Rattle.sec_utils.specs.declared.util.Tool.TheVariants.{GetFcap, SetFcap}
 use Rattle.world_text.specs.declared.format.Format.{Format}
 use Rattle.world_text.specs.declared.format.Format.TheVariants.{Two}
-use Rattle.lab_engine.specs.Input.{Begun, Input, Judge, Script, begun_in, input_by, lines_at, script_of}
+use Rattle.lab_engine.specs.Input.{Begun, Input, Judge, begun_in, input_by}
 
 -- ---- a line
 
@@ -31,10 +29,6 @@ abbrev pub refuses_asked : Judge
 refuses_asked line = cond (line_asks line) (Some fault.CapsAsked) None
 
 -- ---- the input
-
--- the script that is left at a reader, where these bytes come after those that it holds
-abbrev pub least_at : PolicyNames → LinesState → List ℕ → Script
-least_at policy s more = script_of (lines_at refuses_asked policy s more)
 
 -- an input, by what it is at the end of its world
 abbrev pub least_by : Begun → Input

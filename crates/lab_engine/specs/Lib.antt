@@ -9,12 +9,13 @@ pub mod Readable
 pub mod UpgradeInput
 pub mod LeastInput
 pub mod Reading
+pub mod Judging
 pub mod Handling
 pub mod Opening
 pub mod Playing
 pub mod Player
 pub mod Checking
-pub mod Counting
+pub mod Keeping
 pub mod Upgrading
 pub mod Least
 pub mod Viewing

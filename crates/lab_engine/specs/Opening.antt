@@ -13,9 +13,9 @@ use Rattle.lab_engine.specs.declared.opening.Opened.{Opened}
 use Rattle.lab_engine.specs.declared.opening.Opened.TheVariants as opened
 use Rattle.lab_engine.specs.declared.opening.OpenedWorld.{OpenedWorld}
 use Rattle.lab_engine.specs.Input.{begun_in, input_in, no_world}
-use Rattle.lab_engine.specs.LeastInput.{least_at, least_in}
-use Rattle.lab_engine.specs.UpgradeInput.{upgrade_in, kept_script, upgrade_at}
-use Rattle.lab_engine.specs.Reading.{left_of, script_at, script_left}
+use Rattle.lab_engine.specs.LeastInput.{least_in}
+use Rattle.lab_engine.specs.UpgradeInput.{upgrade_in, kept_script}
+use Rattle.lab_engine.specs.Reading.{least_at, left_of, script_at, script_left, upgrade_at}
 
 -- a world was accepted: the bytes that were taken, with whatever more follows, are an input that has this world, and whose script is what is left at the reader,
 -- which takes no more than the limit and one byte in all

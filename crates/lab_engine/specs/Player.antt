@@ -8,6 +8,7 @@ use Rattle.kern_model.specs.declared.world.ScriptItem.{ScriptItem}
 use Rattle.kern_model.specs.Run.{CallRecord, run, state_after_run}
 use Rattle.kern_model.specs.State.{State}
 use Rattle.lab_text.specs.Policy.{PolicyNames}
+use Rattle.lab_engine.specs.Input.{Judge}
 use Rattle.lab_engine.specs.declared.ending.Fault.{Fault}
 use Rattle.lab_engine.specs.declared.playing.Played.{Played}
 use Rattle.lab_engine.specs.declared.reporter.Reporter.{Reporter}
@@ -92,12 +93,12 @@ module _ {K T : Type 0} {k : Ghosts K} {t : Ghosts T} where
   ShowsCalls result calls r r' = SawCalls result calls (calls_seen r.seen.items) (calls_seen r'.seen.items) (calls_seen r'.stopped.items)
 
   -- a script is read from a reader of lines and played from one state to another, up to a fault, and what it does is reported
-  abbrev pub PlaysTo : Result Played Fault → (lines lines' : LinesState) (source source' : SourceView) (s s' : State) (r r' : Reporter K T k t) → Type 0
-  PlaysTo result lines lines' source source' s s' r r' =
-      PlaysScript result r.texts.policy.now r.report r'.report s s' lines lines' source.left source'.left
+  abbrev pub PlaysTo : Result Played Fault → Judge → (lines lines' : LinesState) (source source' : SourceView) (s s' : State) (r r' : Reporter K T k t) → Type 0
+  PlaysTo result judge lines lines' source source' s s' r r' =
+      PlaysScript result judge r.texts.policy.now r.report r'.report s s' lines lines' source.left source'.left
       (ends source.faults (k.view r.out.now) (t.view r.trail.now)) (ends source'.faults (k.view r'.out.now) (t.view r'.trail.now))
 
   -- the calls of a script that was read from a reader of lines were shown to a reporter, as they are played from a state on
-  abbrev pub ShowsScript : Result Played Fault → (lines lines' : LinesState) (source source' : SourceView) (s : State) (r r' : Reporter K T k t) → Type 0
-  ShowsScript result lines lines' source source' s r r' =
-      SawScript result r.texts.policy.now s lines lines' source.left source'.left (calls_seen r.seen.items) (calls_seen r'.seen.items) (calls_seen r'.stopped.items)
+  abbrev pub ShowsScript : Result Played Fault → Judge → (lines lines' : LinesState) (source source' : SourceView) (s : State) (r r' : Reporter K T k t) → Type 0
+  ShowsScript result judge lines lines' source source' s r r' =
+      SawScript result judge r.texts.policy.now s lines lines' source.left source'.left (calls_seen r.seen.items) (calls_seen r'.seen.items) (calls_seen r'.stopped.items)

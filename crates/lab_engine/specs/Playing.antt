@@ -14,9 +14,9 @@ use Rattle.kern_model.specs.State.{State}
 use Rattle.kern_model.specs.Run.{run, state_after_run}
 use Rattle.lab_text.specs.Policy.{PolicyNames}
 use Rattle.lab_engine.specs.Counts.{Counts, counts, counted_by}
-use Rattle.lab_engine.specs.Input.{Script}
+use Rattle.lab_engine.specs.Input.{Judge, Script}
 use Rattle.lab_engine.specs.Readable.{CallsReadable}
-use Rattle.lab_engine.specs.Reading.{Takes, left_of, script_at}
+use Rattle.lab_engine.specs.Reading.{Takes, left_of, script_by}
 use Rattle.lab_engine.specs.Order.{Sent, out_of, trail_of, to_out, to_trail, call_order}
 use Rattle.lab_engine.specs.Session.{bytes_from}
 use Rattle.lab_engine.specs.declared.reporting.Report.{Report}
@@ -99,9 +99,9 @@ pub record StopsIn (policy : PolicyNames) (r : Report) (s : State) (m taken : Sc
   pub stops : StopsBy fault (sends_from r policy 1 (run s m.items)) before after
   pub by_line : fault ≡ Read → Sends (sends_from r policy 1 (run s taken.items)) before after
 
--- a script was read from a reader of lines, and played
-pub record PlaysScript (result : Result Played Fault) (policy : PolicyNames) (r r' : Report) (s s' : State) (lines lines' : LinesState) (left left' : Option (List ℕ)) (before after : Ends) : Type 0 where
+-- the script of the lines that a judge takes was read from a reader of lines, and played
+pub record PlaysScript (result : Result Played Fault) (judge : Judge) (policy : PolicyNames) (r r' : Report) (s s' : State) (lines lines' : LinesState) (left left' : Option (List ℕ)) (before after : Ends) : Type 0 where
   pub taken : List ℕ
   pub takes : Takes lines lines' left left' taken
-  pub did : MatchResult result (λ p. PlaysAll policy r r' s s' (script_at policy lines (taken ++ left_of left')) left' p before after)
-      (λ fault. StopsIn policy r s (script_at policy lines (taken ++ left_of left')) (script_at policy lines taken) fault before after)
+  pub did : MatchResult result (λ p. PlaysAll policy r r' s s' (script_by judge policy lines (taken ++ left_of left')) left' p before after)
+      (λ fault. StopsIn policy r s (script_by judge policy lines (taken ++ left_of left')) (script_by judge policy lines taken) fault before after)

@@ -1,5 +1,5 @@
 -- What is left of an input at a reader of its lines, and what each line says of it.
-use Rattle.std.specs.Prelude.{◌≡◌, ℕ, ◌+◌, ◌<◌, true, List, [], ◌++◌, length, take, nat_lt, Option, Some, None, Result, MatchResult}
+use Rattle.std.specs.Prelude.{◌≡◌, ℕ, ◌+◌, ◌<◌, true, List, [], ◌++◌, ◌∷◌, length, take, nat_lt, Option, Some, None, Result, MatchResult}
 use Rattle.std.specs.Io.KnownBytes.{Consumes, IsAtEnd}
 use Rattle.fs_path.specs.Split.{pieces}
 use Rattle.io_ends.specs.LinesState.{LinesState, may_take}
@@ -21,7 +21,9 @@ use Rattle.lab_engine.specs.declared.reading.WorldLine.{WorldLine}
 use Rattle.lab_engine.specs.declared.reading.WorldLine.TheVariants as world_line
 use Rattle.lab_engine.specs.declared.reading.NextLine.{NextLine}
 use Rattle.lab_engine.specs.declared.reading.NextLine.TheVariants as next
-use Rattle.lab_engine.specs.Input.{Begun, HasWorld, Judge, NoWorld, Script, begun_by, input_from, items_in, judged, lines_at, script_line, script_of, taken_lines, takes_all}
+use Rattle.lab_engine.specs.Input.{Begun, HasWorld, Judge, NoWorld, Script, ScriptLines, begun_by, input_from, items_in, lines_from, script_line, script_of, taken_lines, takes_all}
+use Rattle.lab_engine.specs.LeastInput.{refuses_asked}
+use Rattle.lab_engine.specs.UpgradeInput.{UpgradeScript, kept_of, refuses_mixed}
 
 -- ---- what is left at a reader, where these bytes come after those that it holds
 
@@ -33,9 +35,25 @@ begun_at expecting s more = begun_by (nat_lt s.room (length (s.held ++ more))) (
 unfoldable pub script_left : WorldText → LinesState → List ℕ → Begun
 script_left w s more = HasWorld w (nat_lt s.room (length (s.held ++ more))) (s.number + 1) (pieces 10 (take s.room (s.held ++ more)))
 
--- the script
+-- the lines of the script that a judge takes
+unfoldable pub lines_at : Judge → PolicyNames → LinesState → List ℕ → ScriptLines
+lines_at judge policy s more = lines_from judge (nat_lt s.room (length (s.held ++ more))) policy (s.number + 1) (pieces 10 (take s.room (s.held ++ more)))
+
+-- the script of these lines
+abbrev pub script_by : Judge → PolicyNames → LinesState → List ℕ → Script
+script_by judge policy s more = script_of (lines_at judge policy s more)
+
+-- the script of all lines
 abbrev pub script_at : PolicyNames → LinesState → List ℕ → Script
-script_at policy s more = script_of (lines_at takes_all policy s more)
+script_at policy s more = script_by takes_all policy s more
+
+-- the script of the lines that do not ask for capability sets
+abbrev pub least_at : PolicyNames → LinesState → List ℕ → Script
+least_at policy s more = script_by refuses_asked policy s more
+
+-- the text of the lines that set no capability sets that are not uniform
+abbrev pub upgrade_at : PolicyNames → LinesState → List ℕ → UpgradeScript
+upgrade_at policy s more = kept_of (lines_at refuses_mixed policy s more)
 
 -- the bytes that a source has left, where it reports them
 abbrev pub left_of : Option (List ℕ) → List ℕ
@@ -95,30 +113,30 @@ pub record ReadsWorld (due : Format) (result : Result ReadWorld Fault) (before n
 
 -- ---- the script
 
--- a script begins with a line, whose calls may be played, and goes on with what is left, for each judge; the line has more bytes than calls
-pub record BeginsWith (policy : PolicyNames) (before now : LinesState) (taken : List ℕ) (line : Line) : Type 0 where
-  pub says : (judge : Judge) (more : List ℕ) → lines_at judge policy before (taken ++ more) ≡ judged (judge line) now.number (script_line now.line line) (lines_at judge policy now more)
+-- a script begins with a line that a judge takes, and whose calls may be played, and goes on with what is left; the line has more bytes than calls
+pub record BeginsWith (judge : Judge) (policy : PolicyNames) (before now : LinesState) (taken : List ℕ) (line : Line) : Type 0 where
+  pub says : (more : List ℕ) → lines_at judge policy before (taken ++ more) ≡ taken_lines (script_line now.line line ∷ (lines_at judge policy now more).lines) (lines_at judge policy now more).ending
   pub number : 0 < now.number
   pub calls : MayBePlayed (top_of policy) line
   pub more : now.more ≡ true
   pub fewer : length (items_in line) + now.room < before.room
 
 -- a script ends without a further call
-pub record EndsScript (policy : PolicyNames) (before : LinesState) (left : Option (List ℕ)) (taken : List ℕ) (ending : InputEnd) : Type 0 where
-  pub says : (judge : Judge) → lines_at judge policy before (taken ++ left_of left) ≡ taken_lines [] ending
+pub record EndsScript (judge : Judge) (policy : PolicyNames) (before : LinesState) (left : Option (List ℕ)) (taken : List ℕ) (ending : InputEnd) : Type 0 where
+  pub says : lines_at judge policy before (taken ++ left_of left) ≡ taken_lines [] ending
   pub to_the_end : ending ≡ Whole → IsAtEnd left
 
 -- what is next in a script
-abbrev pub SaysNext : PolicyNames → LinesState → LinesState → Option (List ℕ) → List ℕ → NextLine → Type 0
-SaysNext policy before now left taken (next.Line line) = BeginsWith policy before now taken line
-SaysNext policy before now left taken (next.Ended ending) = EndsScript policy before left taken ending
+abbrev pub SaysNext : Judge → PolicyNames → LinesState → LinesState → Option (List ℕ) → List ℕ → NextLine → Type 0
+SaysNext judge policy before now left taken (next.Line line) = BeginsWith judge policy before now taken line
+SaysNext judge policy before now left taken (next.Ended ending) = EndsScript judge policy before left taken ending
 
 -- where a read failed, the bytes that were taken have no further whole line
-abbrev pub HasNoCall : PolicyNames → LinesState → List ℕ → Fault → Type 0
-HasNoCall policy before taken fault = fault ≡ ReadFault → (script_at policy before taken).items ≡ []
+abbrev pub HasNoLine : Judge → PolicyNames → LinesState → List ℕ → Fault → Type 0
+HasNoLine judge policy before taken fault = fault ≡ ReadFault → (lines_at judge policy before taken).lines ≡ []
 
--- the next line of a script was read
-pub record Follows (result : Result NextLine Fault) (policy : PolicyNames) (before now : LinesState) (left left' : Option (List ℕ)) : Type 0 where
+-- the next line of a script that a judge takes was read
+pub record Follows (result : Result NextLine Fault) (judge : Judge) (policy : PolicyNames) (before now : LinesState) (left left' : Option (List ℕ)) : Type 0 where
   pub taken : List ℕ
   pub takes : Takes before now left left' taken
-  pub shows : MatchResult result (λ line. SaysNext policy before now left' taken line) (λ fault. HasNoCall policy before taken fault)
+  pub shows : MatchResult result (λ line. SaysNext judge policy before now left' taken line) (λ fault. HasNoLine judge policy before taken fault)

@@ -12,9 +12,11 @@ use Rattle.kern_model.specs.Isolation.{any_crosses, low}
 use Rattle.kern_model.specs.Run.{CallRecord, run}
 use Rattle.kern_model.specs.State.{State}
 use Rattle.lab_text.specs.Policy.{PolicyNames}
+use Rattle.cap_bits.specs.CapSet.{CapSet, no_caps, union_of}
+use Rattle.least_caps.specs.Named.{named}
 use Rattle.aud_record.specs.Written.{rec_text}
 use Rattle.lab_engine.specs.declared.reporting.Report.{Report}
-use Rattle.lab_engine.specs.declared.reporting.Report.TheVariants.{All, Below, Crossed, Counted}
+use Rattle.lab_engine.specs.declared.reporting.Report.TheVariants.{All, Below, Crossed, Counted, Named}
 use Rattle.lab_engine.specs.declared.reporting.Shown.{Shown}
 use Rattle.lab_engine.specs.declared.reporting.Shown.TheVariants as shown
 use Rattle.lab_engine.specs.declared.reporting.Tally.{Tally}
@@ -63,6 +65,7 @@ report_after_call All p = All
 report_after_call (Below l k) p = cond (any_crosses l p.recs) Crossed (cond (low l p.who.label) (Below l (k + 1)) (Below l k))
 report_after_call Crossed p = Crossed
 report_after_call (Counted t) p = Counted (tally_of t (p ∷ []))
+report_after_call (Named caps) p = Named (union_of caps (named p.recs))
 
 -- what is kept after calls
 unfoldable pub report_after : Report → List CallRecord → Report
@@ -75,6 +78,7 @@ CountsAtMost n All = Unit {0}
 CountsAtMost n (Below l k) = k ≤ n
 CountsAtMost n Crossed = Unit {0}
 CountsAtMost n (Counted t) = (t.ok ≤ n) × (t.denied ≤ n) × (t.refused ≤ n)
+CountsAtMost n (Named caps) = Unit {0}
 
 -- ---- what is written
 
@@ -88,6 +92,7 @@ call_sends All policy n p = call_order (call_bytes policy n p)
 call_sends (Below l k) policy n p = cond (any_crosses l p.recs) (to_out crossed_line) (cond (low l p.who.label) (to_out (reply_text policy p)) [])
 call_sends Crossed policy n p = []
 call_sends (Counted t) policy n p = []
+call_sends (Named caps) policy n p = []
 
 -- what is written of calls from the n-th on
 unfoldable pub sends_from : Report → PolicyNames → ℕ → List CallRecord → List Sent
@@ -110,6 +115,7 @@ shown_of All who recs = shown.Call
 shown_of (Below l k) who recs = cond (any_crosses l recs) shown.Crossing (cond (low l who.label) shown.Reply shown.Nothing)
 shown_of Crossed who recs = shown.Nothing
 shown_of (Counted t) who recs = shown.Nothing
+shown_of (Named caps) who recs = shown.Nothing
 
 -- what is written before the reply
 abbrev pub before_reply : Shown → PolicyNames → ℕ → List Rec → List Sent
@@ -130,3 +136,13 @@ has_reply shown.Nothing = false
 -- the tally of no call
 abbrev pub empty_tally : Tally
 empty_tally = record { ok = 0; denied = 0; refused = 0; exercised = 0 }
+
+-- the tally that is kept
+abbrev pub tally_in : Report → Tally
+tally_in (Counted t) = t
+tally_in _ = empty_tally
+
+-- the capabilities that are kept
+abbrev pub caps_in : Report → CapSet
+caps_in (Named caps) = caps
+caps_in _ = no_caps

@@ -25,10 +25,11 @@ use Rattle.lab_engine.specs.declared.playing.Played.{Played}
 use Rattle.lab_engine.specs.declared.replying.ReplyLine.{ReplyLine}
 use Rattle.lab_engine.specs.declared.reporting.Report.{Report}
 use Rattle.lab_engine.specs.declared.reporting.Report.TheVariants.{All}
+use Rattle.lab_engine.specs.Input.{Judge}
 use Rattle.lab_engine.specs.Order.{Sent}
 use Rattle.lab_engine.specs.Playing.{Ends, Sends, ends}
 use Rattle.lab_engine.specs.Readable.{IsReadable}
-use Rattle.lab_engine.specs.Reading.{Takes, left_of, script_at}
+use Rattle.lab_engine.specs.Reading.{Takes, left_of, script_by}
 use Rattle.lab_engine.specs.Report.{call_record, report_after, sends_from}
 use Rattle.lab_engine.specs.Session.{numbered_from}
 
@@ -93,11 +94,11 @@ pub record SawPart (calls seen seen' stopped' : List CallRecord) : Type 0 where
 abbrev pub SawCalls : {T : Type 0} → Result T Fault → (calls seen seen' stopped' : List CallRecord) → Type 0
 SawCalls result calls seen seen' stopped' = MatchResult result (λ _. (seen' ≡ seen ++ calls) × (stopped' ≡ [])) (λ _. SawPart calls seen seen' stopped')
 
--- the calls of a script that was read from a reader of lines were seen, played from a state on
-pub record SawScript (result : Result Played Fault) (policy : PolicyNames) (s : State) (lines lines' : LinesState) (left left' : Option (List ℕ)) (seen seen' stopped' : List CallRecord) : Type 0 where
+-- the calls of the lines that a judge takes of a script were seen, played from a state on
+pub record SawScript (result : Result Played Fault) (judge : Judge) (policy : PolicyNames) (s : State) (lines lines' : LinesState) (left left' : Option (List ℕ)) (seen seen' stopped' : List CallRecord) : Type 0 where
   pub taken : List ℕ
   pub takes : Takes lines lines' left left' taken
-  pub saw : SawCalls result (run s (script_at policy lines (taken ++ left_of left')).items) seen seen' stopped'
+  pub saw : SawCalls result (run s (script_by judge policy lines (taken ++ left_of left')).items) seen seen' stopped'
 
 -- ---- what the ends hold
 

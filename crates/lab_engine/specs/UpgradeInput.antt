@@ -3,10 +3,8 @@ use Rattle.std.specs.Prelude.{Bool, false, cond, not, ℕ, List, [], ◌∷◌, 
 use Rattle.std.specs.List.{flat_map}
 use Rattle.cap_bits.specs.declared.state.CapState.{CapState}
 use Rattle.cap_bits.specs.FileCaps.{is_uniform}
-use Rattle.io_ends.specs.LinesState.{LinesState}
 use Rattle.kern_model.specs.declared.calls.Call.{Call}
 use Rattle.kern_model.specs.declared.calls.Call.TheVariants.{CapSetFile, CapSetFd}
-use Rattle.lab_text.specs.Policy.{PolicyNames}
 use Rattle.line_text.specs.declared.fault.LineFault.TheVariants as fault
 use Rattle.script_text.specs.declared.line.Line.{Line}
 use Rattle.script_text.specs.declared.line.Line.TheVariants as line
@@ -15,7 +13,7 @@ use Rattle.sec_utils.specs.declared.util.Tool.TheVariants.{SetFcap}
 use Rattle.world_text.specs.declared.format.Format.{Format}
 use Rattle.world_text.specs.declared.format.Format.TheVariants.{One}
 use Rattle.lab_engine.specs.declared.ending.InputEnd.{InputEnd}
-use Rattle.lab_engine.specs.Input.{Accepted, Begun, HasWorld, Judge, NoWorld, ScriptLine, ScriptLines, begun_in, lines_at, lines_from}
+use Rattle.lab_engine.specs.Input.{Accepted, Begun, HasWorld, Judge, NoWorld, ScriptLine, ScriptLines, begun_in, lines_from}
 
 -- ---- a line
 
@@ -56,10 +54,6 @@ text_of_lines lines = flat_map (λ (l : ScriptLine). l.text ++ 10 ∷ []) lines
 
 abbrev pub kept_of : ScriptLines → UpgradeScript
 kept_of m = kept_script (text_of_lines m.lines) m.ending
-
--- the script that is left at a reader, where these bytes come after those that it holds
-abbrev pub upgrade_at : PolicyNames → LinesState → List ℕ → UpgradeScript
-upgrade_at policy s more = kept_of (lines_at refuses_mixed policy s more)
 
 -- ---- the input
 

@@ -1,7 +1,8 @@
 -- What was written of a script that is upgraded.
-use Rattle.std.specs.Prelude.{◌≡◌, ◌≤◌, List, ◌++◌, ℕ, length, Result, IfOk}
+use Rattle.std.specs.Prelude.{◌≡◌, ◌≤◌, List, [], ◌∷◌, ◌++◌, ℕ, length, Result, IfOk}
 use Rattle.std.specs.declared.option.Option.{Option}
 use Rattle.std.specs.Io.KnownBytes.{IsAtEnd}
+use Rattle.io_ends.specs.Ends.{SinkView}
 use Rattle.io_ends.specs.LinesState.{LinesState}
 use Rattle.fs_path.specs.Split.{pieces}
 use Rattle.kern_model.specs.declared.limits.TheConstants.{MAX_INPUT}
@@ -14,11 +15,19 @@ use Rattle.world_text.specs.Written.{text_of_world}
 use Rattle.lab_engine.specs.declared.ending.Fault.{Fault}
 use Rattle.lab_engine.specs.declared.ending.InputEnd.{InputEnd}
 use Rattle.lab_engine.specs.declared.ending.InputEnd.TheVariants.{Whole}
-use Rattle.lab_engine.specs.Input.{Accepted, input_of, old_input_of}
-use Rattle.lab_engine.specs.UpgradeInput.{UpgradeScript, upgrade_at}
+use Rattle.lab_engine.specs.Input.{Accepted, ScriptLine, input_of, old_input_of}
+use Rattle.lab_engine.specs.UpgradeInput.{UpgradeScript}
 use Rattle.lab_engine.specs.Order.{to_out}
-use Rattle.lab_engine.specs.Playing.{Ends, Writes}
-use Rattle.lab_engine.specs.Reading.{Takes, left_of}
+use Rattle.lab_engine.specs.Playing.{Ends, SendsAll, StopsBy, Writes, ends}
+use Rattle.lab_engine.specs.Reading.{Takes, left_of, upgrade_at}
+
+-- a line was written as it came
+abbrev pub CopiesLine : ScriptLine → (out out' : SinkView) → Type 0
+CopiesLine line out out' = (source : ℕ) (trail : SinkView) → SendsAll (to_out (line.text ++ 10 ∷ [])) (ends source out trail) (ends source out' trail)
+
+-- a fault stopped the line
+abbrev pub StopsInLine : ScriptLine → Fault → (out out' : SinkView) → Type 0
+StopsInLine line fault out out' = (source : ℕ) (trail : SinkView) → StopsBy fault (to_out (line.text ++ 10 ∷ [])) (ends source out trail) (ends source out' trail)
 
 -- how a script ended
 pub record EndsUpgrade (m : UpgradeScript) (left : Option (List ℕ)) (ending : InputEnd) : Type 0 where

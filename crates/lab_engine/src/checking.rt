@@ -9,13 +9,15 @@ ghost use Rattle.lab_engine.specs.Checking.{ChecksScript};
 
 use crate::Fault;
 use crate::handling::{LineHandler, handle_script};
+use crate::judging::Judge;
 use crate::playing::Played;
+use crate::reading::LineRules;
 use crate::texts::Texts;
 use io_ends::{Lines, Source};
 use script_text::Line;
 
 // How many calls a line stands for.
-fn calls_in(line: &Line) -> u64
+pub(crate) fn calls_in(line: &Line) -> u64
     requires { (util : Util) → line.now ≡ a_line.Tool util → IsWhole util }
     ensures { result ≡ length (items_in line.now) }
 {
@@ -40,7 +42,13 @@ impl LineHandler<()> for Checker {
     ghost same_borrows = { λ _ _. Unit {0} };
 
     #[inline(always)]
-    fn handle_line(&mut self, _: &mut (), count: u64, line: &Line) -> Result<u64, Fault> {
+    fn handle_line(
+        &mut self,
+        _: &mut (),
+        count: u64,
+        line: &Line,
+        _: &Lines,
+    ) -> Result<u64, Fault> {
         Ok(count + calls_in(line))
     }
 
@@ -61,5 +69,9 @@ pub fn check_script<S: Source>(
     ensures checks { ChecksScript result texts.entry.policy.now lines.old lines.new (S.view source.old).left (S.view source.new).left }
     ensures counts { (o t : ℕ) → CountsOnce result (counts (S.view source.old).faults o t) (counts (S.view source.new).faults o t) }
 {
-    handle_script(texts, lines, source, &mut (), &mut Checker)
+    let rules = LineRules {
+        texts,
+        judge: Judge::TakesAll,
+    };
+    handle_script(rules, lines, source, &mut (), &mut Checker)
 }

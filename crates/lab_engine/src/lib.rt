@@ -3,11 +3,11 @@
 #![tactic(auto)]
 
 mod checking;
-mod counting;
 mod ending;
 mod generated;
 mod handling;
-mod least;
+mod judging;
+mod keeping;
 mod opening;
 mod playing;
 mod reading;
@@ -18,13 +18,13 @@ mod texts;
 mod upgrading;
 
 pub use checking::check_script;
-pub use counting::count_script;
 pub use ending::{CommandWord, Fault, InputEnd, Part};
 pub use generated::Generated;
-pub use least::{Needed, least_script};
+pub use judging::Judge;
+pub use keeping::{Kept, keep_script};
 pub use opening::{Opened, OpenedWorld, open_input};
 pub use playing::{Played, play_script};
-pub use reading::{NextLine, read_next};
+pub use reading::{LineRules, NextLine, read_next};
 pub use reporter::{Reporter, answer, note_all, report_last, write_head};
 pub use reporting::{Report, Tally};
 pub use texts::{Texts, end_line};

@@ -8,11 +8,14 @@ ghost use Rattle.sec_utils.specs.Items.{items_of};
 ghost use Rattle.script_text.specs.Line.{MayBePlayed};
 ghost use Rattle.script_text.specs.declared.line.Line.TheVariants as a_line;
 ghost use Rattle.lab_engine.specs.Input.{items_in};
+ghost use Rattle.lab_engine.specs.Judging.{judge_of};
 ghost use Rattle.lab_engine.specs.Report.{CountsAtMost, report_after, report_after_call};
 ghost use Rattle.lab_engine.specs.Reporter.{HasCall, HasSeen, calls_seen, played_at, who_on};
 ghost use Rattle.lab_engine.specs.Player.{ItemsReadableIfAll, PlaysTo, ReadableIfAll, SameBorrows, ShowsCalls, ShowsScript, WritesCall, WritesItems};
 
 use crate::handling::{LineHandler, handle_script};
+use crate::judging::Judge;
+use crate::reading::LineRules;
 use crate::replying::ReplyLine;
 use crate::reporter::Reporter;
 use crate::{Fault, InputEnd};
@@ -119,18 +122,25 @@ pub struct Played {
 impl<'a, C: Calls, K: Sink, T: Sink> LineHandler<C> for Reporter<'a, K, T> {
     ghost use Rattle.std.specs.Prelude.{refl};
     ghost use Rattle.std.proofs.Common.{◌∙◌};
+    ghost use Rattle.lab_engine.specs.Input.{items_in};
     ghost use Rattle.lab_engine.specs.Player.{PlaysCalls, StopsCalls, player_view};
 
     ghost ready = { λ r k count top. ((C.state k).top ≡ top) × CountsAtMost count r.report × HasSeen count r.seen.items r.stopped.items };
 
-    ghost handles = { λ count items a b. PlaysCalls count items (player_view C.state K.Sink T.Sink a) (player_view C.state K.Sink T.Sink b) };
+    ghost handles = { λ count line a b. PlaysCalls count (items_in line.says) (player_view C.state K.Sink T.Sink a) (player_view C.state K.Sink T.Sink b) };
 
-    ghost stops = { λ count items fault a b. StopsCalls count items fault (player_view C.state K.Sink T.Sink a) (player_view C.state K.Sink T.Sink b) };
+    ghost stops = { λ count line fault a b. StopsCalls count (items_in line.says) fault (player_view C.state K.Sink T.Sink a) (player_view C.state K.Sink T.Sink b) };
 
     ghost same_borrows = { λ a b. (b.start.items ≡ a.start.items) × SameBorrows a b };
 
     #[inline(always)]
-    fn handle_line(&mut self, kernel: &mut C, count: u64, line: &Line) -> Result<u64, Fault> {
+    fn handle_line(
+        &mut self,
+        kernel: &mut C,
+        count: u64,
+        line: &Line,
+        _: &Lines,
+    ) -> Result<u64, Fault> {
         play_line(kernel, count, line, self)
     }
 
@@ -139,8 +149,9 @@ impl<'a, C: Calls, K: Sink, T: Sink> LineHandler<C> for Reporter<'a, K, T> {
     ghost same_trans = { λ a b c p q. (q.0 ∙ p.0, (q.1.0 ∙ p.1.0, p.1.1 ∙ q.1.1, p.1.2 ∙ q.1.2)) };
 }
 
-/// Plays a script to its end, each line as soon as it is read, and reports its calls.
+/// Plays a script to its end, each line as soon as it is read, and reports its calls. A line that the judge refuses ends it.
 pub fn play_script<C: Calls, S: Source, K: Sink, T: Sink>(
+    judge: Judge,
     kernel: &mut C,
     lines: &mut Lines,
     source: &mut S,
@@ -151,12 +162,16 @@ pub fn play_script<C: Calls, S: Source, K: Sink, T: Sink>(
     requires top { (C.state kernel.old).top ≡ top_of reporter.old.texts.policy.now }
     requires counted { CountsAtMost 0 reporter.old.report }
     requires seen { HasSeen 0 reporter.old.seen.items reporter.old.stopped.items }
-    ensures plays { PlaysTo result lines.old lines.new (S.view source.old) (S.view source.new)
+    ensures plays { PlaysTo result (judge_of judge) lines.old lines.new (S.view source.old) (S.view source.new)
         (C.state kernel.old) (C.state kernel.new) reporter.old reporter.new }
-    ensures saw { ShowsScript result lines.old lines.new (S.view source.old) (S.view source.new)
+    ensures saw { ShowsScript result (judge_of judge) lines.old lines.new (S.view source.old) (S.view source.new)
         (C.state kernel.old) reporter.old reporter.new }
     ensures start { reporter.new.start.items ≡ reporter.old.start.items }
     ensures same { SameBorrows reporter.old reporter.new }
 {
-    handle_script(reporter.texts, lines, source, kernel, reporter)
+    let rules = LineRules {
+        texts: reporter.texts,
+        judge,
+    };
+    handle_script(rules, lines, source, kernel, reporter)
 }

@@ -1,8 +1,10 @@
 // An input, read line by line.
 ghost use Rattle.std.specs.Prelude.{◌≡◌, ℕ, true};
 ghost use Rattle.lab_engine.specs.Counts.{CountsOnce, counts};
+ghost use Rattle.lab_engine.specs.Judging.{judge_of};
 ghost use Rattle.lab_engine.specs.Reading.{Follows, ReadsLine, ReadsWorld};
 
+use crate::judging::Judge;
 use crate::texts::Texts;
 use crate::{Fault, InputEnd, Part};
 use io_ends::{Lines, Next, Source};
@@ -31,10 +33,19 @@ pub enum WorldLine {
     Ended(InputEnd),
 }
 
+/// How the lines of a script are read.
+#[derive(Clone, Copy)]
+pub struct LineRules<'a> {
+    /// By which names, and with what memory.
+    pub texts: Texts<'a>,
+    /// Which lines are refused that can be read.
+    pub judge: Judge,
+}
+
 /// What is next in a script.
 #[derive(Drop)]
 pub enum NextLine {
-    /// A line.
+    /// A line that is taken.
     Line(Line),
     /// The input ends here.
     Ended(InputEnd),
@@ -100,17 +111,23 @@ pub fn read_world<S: Source>(
 /// Reads the next line of a script.
 #[inline(always)]
 pub fn read_next<S: Source>(
-    texts: Texts<'_>,
+    rules: LineRules<'_>,
     lines: &mut Lines,
     source: &mut S,
 ) -> Result<NextLine, Fault>
     requires { lines.old.more ≡ true }
-    ensures follows { Follows result texts.entry.policy.now lines.old lines.new (S.view source.old).left (S.view source.new).left }
+    ensures follows { Follows result (judge_of rules.entry.judge) rules.entry.texts.policy.now lines.old lines.new (S.view source.old).left (S.view source.new).left }
     ensures counts { (o t : ℕ) → CountsOnce result (counts (S.view source.old).faults o t) (counts (S.view source.new).faults o t) }
 {
     match lines.next(source)? {
-        Next::Line => match read_line(texts.alloc, texts.policy, lines.line()) {
-            Ok(line) => Ok(NextLine::Line(line)),
+        Next::Line => match read_line(rules.texts.alloc, rules.texts.policy, lines.line()) {
+            Ok(line) => match rules.judge.fault(&line) {
+                None => Ok(NextLine::Line(line)),
+                Some(why) => {
+                    let ending = refused(lines, Part::Script, why);
+                    Ok(NextLine::Ended(ending))
+                }
+            },
             Err(error) => {
                 let ending = refused(lines, Part::Script, error.fault()?);
                 Ok(NextLine::Ended(ending))

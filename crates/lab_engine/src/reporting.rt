@@ -3,11 +3,12 @@ ghost use Rattle.std.specs.Prelude.{◌≡◌, ◌^◌, ◌∷◌, [], ℕ, List
 ghost use Rattle.kern_model.specs.declared.numbers.Pid.{Pid};
 ghost use Rattle.kern_model.specs.Isolation.{crosses, any_crosses, differ, is_mac as is_mac_cap, low};
 ghost use Rattle.lab_engine.specs.declared.reporting.Report.TheVariants as a_report;
-ghost use Rattle.lab_engine.specs.Report.{CountsAtMost, call_record, empty_tally, exercises as exercises_among, is_exercise, report_after_call, shown_of, tally_of};
+ghost use Rattle.lab_engine.specs.Report.{CountsAtMost, call_record, caps_in, empty_tally, exercises as exercises_among, is_exercise, report_after_call, shown_of, tally_in, tally_of};
 
-use cap_bits::Cap;
+use cap_bits::{Cap, CapSet};
 use kern_model::{NoMemory, Outcome, Pid, Rec, Reply};
 use lab_lattice::{Label, Lattice};
+use least_caps::named;
 
 /// How many calls were answered, and how many exercises of capabilities were recorded.
 #[derive(Clone, Copy, Debug, PartialEq, Eq)]
@@ -33,6 +34,8 @@ pub enum Report {
     Crossed,
     /// Nothing is written, and what was answered is counted.
     Counted(Tally),
+    /// Nothing is written, and the capabilities are kept that exercises name.
+    Named(CapSet),
 }
 
 /// What is written of one call.
@@ -164,6 +167,31 @@ impl Report {
                 tally.count(outcome)?;
                 Ok(Shown::Nothing)
             }
+            Report::Named(caps) => {
+                *caps = caps.union(named(&outcome.recs));
+                Ok(Shown::Nothing)
+            }
+        }
+    }
+
+    /// What was counted of calls, or the tally of no call where nothing was counted.
+    pub fn tally(self) -> Tally
+        ensures { result ≡ tally_in self }
+    {
+        match self {
+            Report::Counted(tally) => tally,
+            Report::All | Report::Below(..) | Report::Crossed | Report::Named(_) => Tally::new(),
+        }
+    }
+
+    /// The capabilities that exercises named, or none where they were not kept.
+    pub fn caps(self) -> CapSet
+        ensures { result ≡ caps_in self }
+    {
+        match self {
+            Report::Named(caps) => caps,
+            Report::All | Report::Below(..) | Report::Crossed | Report::Counted(_) =>
+                CapSet::none(),
         }
     }
 }

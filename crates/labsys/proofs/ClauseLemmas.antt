@@ -26,7 +26,7 @@ use Rattle.lab_engine.specs.Counts.{counted_by}
 use Rattle.labsys.specs.Counts.{counts_after}
 use Rattle.io_ends.specs.Ends.{sink_view}
 use Rattle.lab_engine.specs.Playing.{Ends, Sends, Writes, faults_of}
-use Rattle.labsys.specs.Playing.{CommandDid}
+use Rattle.labsys.specs.Playing.{Besides, CommandDid}
 use Rattle.lab_engine.specs.Reading.{left_of}
 use Rattle.lab_engine.specs.Viewing.{session_alone, unless_whole, view_text}
 use Rattle.lab_text.specs.Text.{parse_label}
@@ -129,12 +129,9 @@ ends_used c e = record e { trail = sink_view (if_used (writes_trail c) e.trail.h
 pub of_command : (o : Option Command) (c : Command) (P : Command → Type 0) → o ≡ Some c → P c → IfSome o P
 of_command o c P is p = subst (λ (x : Option Command). IfSome x P) (sym is) p
 
--- words that name a command and are those of `play` name that
-pub is_play : (o : Option Command) (c : Command) → o ≡ Some c → o ≡ Some Play → c ≡ Play
-is_play o c is play = let same : Some c ≡ Some Play = sym is ∙ play in cc
-
-pub as_play : (c : Command) (r : Result InputEnd Fault) (l l' : Option (List ℕ)) (entry exit : Ends) → c ≡ Play → CommandDid c r l l' entry exit → CommandDid Play r l l' entry exit
-as_play c r l l' entry exit is x = subst (λ (k : Command). CommandDid k r l l' entry exit) is x
+-- what the command did that the words name
+pub as_named : (o : Option Command) (c d : Command) (r : Result InputEnd Fault) (l l' : Option (List ℕ)) (entry exit : Ends) → o ≡ Some c → o ≡ Some d → CommandDid c r l l' entry exit → CommandDid d r l l' entry exit
+as_named o c d r l l' entry exit is named x = let same : Some c ≡ Some d = sym is ∙ named in subst (λ (k : Command). CommandDid k r l l' entry exit) (cc) x
 
 -- ---- counts
 
@@ -304,9 +301,10 @@ writes_out (Err x) bytes e e' w = record {
 }
 
 -- a command that writes to the output alone did the same where the trail counts as one that holds nothing
-did_beside : (c : Command) (bytes : List ℕ → List ℕ) → ((text : List ℕ) → (due c text).order ≡ to_out (bytes text)) → (c ≡ Play → ⊥) → (r : Result InputEnd Fault) (l l' : Option (List ℕ)) (e e' : Ends) → CommandDid c r l l' e e'
+did_beside : (c : Command) (bytes : List ℕ → List ℕ) → ((text : List ℕ) → (due c text).order ≡ to_out (bytes text)) → (c ≡ Play → ⊥)
+    → ((text : List ℕ) (r : Result InputEnd Fault) (e e' f f' : Ends) → Besides c text r e e' → Besides c text r f f') → (r : Result InputEnd Fault) (l l' : Option (List ℕ)) (e e' : Ends) → CommandDid c r l l' e e'
     → CommandDid c r l l' (without_trail e) (without_trail e')
-did_beside c bytes is other r l l' e e' x =
+did_beside c bytes is other same r l l' e e' x =
     let text = x.taken ++ left_of l' in
     record {
       taken = x.taken;
@@ -316,6 +314,7 @@ did_beside c bytes is other r l l' e e' x =
       status = x.status;
       to_the_end = x.to_the_end;
       by_line = λ play. absurd (other play);
+      besides = same text r e e' (without_trail e) (without_trail e') x.besides;
     }
 
 -- a command did the same by what the ends report that it uses
@@ -323,14 +322,14 @@ pub did_used : (c : Command) (r : Result InputEnd Fault) (l l' : Option (List �
     → CommandDid c r (if_used (reads_source c) l) (if_used (reads_source c) l') (ends_used c e) (ends_used c e')
 did_used Play r l l' e e' x = x
 did_used Sched r l l' e e' x = x
-did_used Check r l l' e e' x = did_beside Check _ (λ text. refl) (λ play. absurd (cc)) r l l' e e' x
-did_used (View word) r l l' e e' x = did_beside (View word) _ (λ text. refl) (λ play. absurd (cc)) r l l' e e' x
-did_used Upgrade r l l' e e' x = did_beside Upgrade _ (λ text. refl) (λ play. absurd (cc)) r l l' e e' x
-did_used Least r l l' e e' x = did_beside Least _ (λ text. refl) (λ play. absurd (cc)) r l l' e e' x
-did_used (Select word) r l l' e e' x = did_beside (Select word) _ (λ text. refl) (λ play. absurd (cc)) r l l' e e' x
-did_used Lineage r l l' e e' x = did_beside Lineage _ (λ text. refl) (λ play. absurd (cc)) r l l' e e' x
-did_used (Gen n) r l l' e e' x = record { taken = []; took = Consumes-nil (Some []); few = omega arith; writes = writes_out r _ e e' x.writes; status = x.status; to_the_end = λ reads. absurd (cc); by_line = λ play. absurd (cc) }
-did_used (Drill n) r l l' e e' x = record { taken = []; took = Consumes-nil (Some []); few = omega arith; writes = writes_out r _ e e' x.writes; status = x.status; to_the_end = λ reads. absurd (cc); by_line = λ play. absurd (cc) }
+did_used Check r l l' e e' x = did_beside Check _ (λ text. refl) (λ play. absurd (cc)) (λ text q a b c d same. same) r l l' e e' x
+did_used (View word) r l l' e e' x = did_beside (View word) _ (λ text. refl) (λ play. absurd (cc)) (λ text q a b c d same. same) r l l' e e' x
+did_used Upgrade r l l' e e' x = did_beside Upgrade _ (λ text. refl) (λ play. absurd (cc)) (λ text q a b c d same. same) r l l' e e' x
+did_used Least r l l' e e' x = did_beside Least _ (λ text. refl) (λ play. absurd (cc)) (λ text q a b c d same. same) r l l' e e' x
+did_used (Select word) r l l' e e' x = did_beside (Select word) _ (λ text. refl) (λ play. absurd (cc)) (λ text q a b c d same. same) r l l' e e' x
+did_used Lineage r l l' e e' x = did_beside Lineage _ (λ text. refl) (λ play. absurd (cc)) (λ text q a b c d same. same) r l l' e e' x
+did_used (Gen n) r l l' e e' x = record { taken = []; took = Consumes-nil (Some []); few = omega arith; writes = writes_out r _ e e' x.writes; status = x.status; to_the_end = λ reads. absurd (cc); by_line = λ play. absurd (cc); besides = tt }
+did_used (Drill n) r l l' e e' x = record { taken = []; took = Consumes-nil (Some []); few = omega arith; writes = writes_out r _ e e' x.writes; status = x.status; to_the_end = λ reads. absurd (cc); by_line = λ play. absurd (cc); besides = tt }
 
 module _ (c : Command) (r : Result InputEnd Fault) (l l' : Option (List ℕ)) (entry exit : Ends) (x : CommandDid c r l l' entry exit) where
   abbrev old_used : Command → Reports
@@ -354,6 +353,17 @@ module _ (c : Command) (r : Result InputEnd Fault) (l l' : Option (List ℕ)) (e
       of_command o c (λ command. OnWhole s ((text : List ℕ) → if_used (reads_source command) l ≡ Some text → s ≡ (due command text).status)) named
       (ends_by c r _ _ _ _ (did_used c r l l' entry exit x) s is)
 
+  -- where the run is done, all that is due of the command was written
+  pub done_wrote : (s : Status) → s ≡ status_of r → s ≡ Done
+      → WhereReported (old_used c) (now_used c) (λ text out trail. (out ≡ out_of (due c text).order) × ((Done ≡ (due c text).status) × Besides c text r (ends_used c entry) (ends_used c exit)))
+  done_wrote s is done text before above el eo et =
+      let used = did_used c r l l' entry exit x in
+      let all = subst (λ z. OnWhole z (WhereReported (old_used c) (now_used c) (λ text out trail. (out ≡ out_of (due c text).order) × (trail ≡ trail_of (due c text).order)))) done (run_all c r _ _ _ _ used s is) in
+      let end = subst (λ z. OnWhole z ((text : List ℕ) → if_used (reads_source c) l ≡ Some text → z ≡ (due c text).status)) done (ends_by c r _ _ _ _ used s is) in
+      let m = all text before above el eo et in
+      let besides = subst (λ (z : List ℕ). Besides c z r (ends_used c entry) (ends_used c exit)) (sym (text_left _ _ used.taken text el used.took)) used.besides in
+      moved_with m (m.holds.0, (end text el, besides))
+
 -- ---- what `play` did
 
 module _ (r : Result InputEnd Fault) (l l' : Option (List ℕ)) (entry exit : Ends) (x : CommandDid Play r l l' entry exit) where
@@ -369,9 +379,13 @@ module _ (r : Result InputEnd Fault) (l l' : Option (List ℕ)) (entry exit : En
       → WhereReported before_play after_play (λ text out trail. WhereAccepted text (λ a m. P text a m out trail))
   where_played P f = where_sent Play r l l' entry exit x _ (λ text sent rest e a is. f text a sent rest is (by_session text a sent rest is e))
 
-  -- the trail as anyone reads it, where what was played is readable
-  run_printed_by_any : ((text : List ℕ) → l ≡ Some text → InputReadable (input_of text) entry exit) → WhereReported before_play after_play (λ text out trail. WhereAccepted text (λ a m. PrintedByAny (session_of a m) out trail))
-  run_printed_by_any readable text before above el eo et =
+  -- what was played is readable
+  readable : (text : List ℕ) → l ≡ Some text → InputReadable (input_of text) entry exit
+  readable text el = subst (λ (z : List ℕ). InputReadable (input_of z) entry exit) (sym (text_left l l' x.taken text el x.took)) x.besides
+
+  -- the trail as anyone reads it
+  run_printed_by_any : WhereReported before_play after_play (λ text out trail. WhereAccepted text (λ a m. PrintedByAny (session_of a m) out trail))
+  run_printed_by_any text before above el eo et =
       let p = prefix_of r (order_of (input_of (x.taken ++ left_of l'))) entry exit x.writes in
       moved l l' entry exit x.taken x.took p.sent p.sends (λ text out trail. WhereAccepted text (λ a m. PrintedByAny (session_of a m) out trail)) text before above el eo et
       (λ a is.
@@ -424,11 +438,11 @@ module _ (r : Result InputEnd Fault) (l l' : Option (List ℕ)) (entry exit : En
   abbrev WholeSent : Type 0
   WholeSent = WhereReported before_play after_play (λ text out trail. (out ≡ out_of (due Play text).order) × (trail ≡ trail_of (due Play text).order))
 
-  -- what `lineage` has to write of the trail, where what was played is readable
-  run_answered_yes : (s : Status) → s ≡ status_of r → ((text : List ℕ) → l ≡ Some text → InputReadable (input_of text) entry exit)
+  -- what `lineage` has to write of the trail
+  run_answered_yes : (s : Status) → s ≡ status_of r
       → OnWhole s (WhereReported before_play after_play (λ text out trail. WhereAccepted text (λ a m. length trail ≤ MAX_INPUT → AnsweredYes (session_of a m) trail)))
-  run_answered_yes s is readable =
-      whole_gives s WholeSent _ (λ all. reported_gives before_play after_play _ _ answered (reported_both before_play after_play _ _ all (run_printed_by_any readable))) (run_all Play r l l' entry exit x s is)
+  run_answered_yes s is =
+      whole_gives s WholeSent _ (λ all. reported_gives before_play after_play _ _ answered (reported_both before_play after_play _ _ all run_printed_by_any)) (run_all Play r l l' entry exit x s is)
     where
       answered : (text out trail : List ℕ) → ((out ≡ out_of (due Play text).order) × (trail ≡ trail_of (due Play text).order)) × WhereAccepted text (λ a m. PrintedByAny (session_of a m) out trail)
           → WhereAccepted text (λ a m. length trail ≤ MAX_INPUT → AnsweredYes (session_of a m) trail)
@@ -436,9 +450,9 @@ module _ (r : Result InputEnd Fault) (l l' : Option (List ℕ)) (entry exit : En
           let m : Script = (input_of text).script in
           answered_yes a m (accepted_input text a acc) trail ((both.1 a acc).own (goes_on (session_of a m) out (out_of_whole text a out acc both.0.0)))
 
-  -- all that `play` promises, where what was played is readable
-  pub run_play : (s : Status) → s ≡ status_of r → ((text : List ℕ) → l ≡ Some text → InputReadable (input_of text) entry exit) → Plays s before_play after_play
-  run_play s is readable = record {
+  -- all that `play` promises
+  pub run_play : (s : Status) → s ≡ status_of r → Plays s before_play after_play
+  run_play s is = record {
     covered = run_covered;
     replies_first = run_replies_first;
     line_by_line = run_line_by_line s is;
@@ -447,16 +461,12 @@ module _ (r : Result InputEnd Fault) (l l' : Option (List ℕ)) (entry exit : En
     two_inputs = run_two_inputs;
     two_whole = run_two_whole s is;
     printed = run_printed;
-    printed_by_any = run_printed_by_any readable;
+    printed_by_any = run_printed_by_any;
     dropped = run_dropped;
-    answered_yes = run_answered_yes s is readable;
+    answered_yes = run_answered_yes s is;
   }
 
 -- ---- what `view` did
-
--- words that name a command and are those of `view` name that
-pub as_view : (o : Option Command) (c : Command) (word : List ℕ) (r : Result InputEnd Fault) (l l' : Option (List ℕ)) (entry exit : Ends) → o ≡ Some c → o ≡ Some (View word) → CommandDid c r l l' entry exit → CommandDid (View word) r l l' entry exit
-as_view o c word r l l' entry exit is view x = let same : Some c ≡ Some (View word) = sym is ∙ view in subst (λ (k : Command). CommandDid k r l l' entry exit) (cc) x
 
 -- what a view wrote of an accepted world
 viewed : (word text : List ℕ) (k : Label) (a : Accepted) → (input_of text).accepted ≡ Some a → parse_label a.policy word ≡ Some k → out_of (due (View word) text).order ≡ view_text k (session_of a (input_of text).script)
@@ -466,32 +476,16 @@ viewed word text k a is named =
     ∙ ap (λ (x : Option Label). out_of (to_out (viewed_text x a m))) named
     ∙ out_of-to_out (view_text k (session_of a m))
 
--- where nothing crosses, it is a view of the part below the label alone
-run_view_alone : (word : List ℕ) (r : Result InputEnd Fault) (l l' : Option (List ℕ)) (entry exit : Ends) → CommandDid (View word) r l l' entry exit → (s : Status) → s ≡ status_of r → s ≡ Done → (k : Label)
-    → WhereReported (reports_used (View word) (reports l entry.out.held entry.trail.held)) (reports_used (View word) (reports l' exit.out.held exit.trail.held))
-    (λ text out trail. WhereAccepted text (λ a m. parse_label a.policy word ≡ Some k → up_to k (run_of a m) ≡ run_of a m → out ≡ view_text k (session_alone k a m)))
-run_view_alone word r l l' entry exit x s is done k =
-    let old = reports_used (View word) (reports l entry.out.held entry.trail.held) in
-    let now = reports_used (View word) (reports l' exit.out.held exit.trail.held) in
-    let all : WhereReported old now (λ text out trail. (out ≡ out_of (due (View word) text).order) × (trail ≡ trail_of (due (View word) text).order)) =
-    subst (λ z. OnWhole z (WhereReported old now (λ text out trail. (out ≡ out_of (due (View word) text).order) × (trail ≡ trail_of (due (View word) text).order)))) done (run_all (View word) r _ _ _ _ (did_used (View word) r l l' entry exit x) s is) in
-    reported_gives old now _ _ (λ text out trail w a acc named none.
-    let fits = accepted_input text a acc in
-    w.0 ∙ viewed word text k a acc named ∙ view_alone k a (input_of text).script fits.world fits.script none) all
-
--- all that `view` promises
+-- all that `view` promises: where nothing crosses, it is a view of the part below the label alone
 pub run_view : (word : List ℕ) (r : Result InputEnd Fault) (l l' : Option (List ℕ)) (entry exit : Ends) → CommandDid (View word) r l l' entry exit → (s : Status) → s ≡ status_of r
     → Views word s (reports l entry.out.held entry.trail.held) (reports l' exit.out.held exit.trail.held)
-run_view word r l l' entry exit x s is = record { view_alone = λ k done. run_view_alone word r l l' entry exit x s is done k }
+run_view word r l l' entry exit x s is = record {
+  view_alone = λ k done. reported_gives _ _ _ _ (λ text out trail w a accepted named none.
+      let fits = accepted_input text a accepted in
+      w.0 ∙ viewed word text k a accepted named ∙ view_alone k a (input_of text).script fits.world fits.script none) (done_wrote (View word) r l l' entry exit x s is done);
+}
 
 -- ---- what `upgrade` did
-
--- words that name a command and are those of `upgrade` name that
-pub is_upgrade : (o : Option Command) (c : Command) → o ≡ Some c → o ≡ Some Upgrade → c ≡ Upgrade
-is_upgrade o c is upgrade = let same : Some c ≡ Some Upgrade = sym is ∙ upgrade in cc
-
-pub as_upgrade : (c : Command) (r : Result InputEnd Fault) (l l' : Option (List ℕ)) (entry exit : Ends) → c ≡ Upgrade → CommandDid c r l l' entry exit → CommandDid Upgrade r l l' entry exit
-as_upgrade c r l l' entry exit is x = subst (λ (k : Command). CommandDid k r l l' entry exit) is x
 
 pub ends_whole : (e : InputEnd) → Done ≡ ends_with e → e ≡ Whole
 ends_whole Whole is = refl
@@ -515,18 +509,13 @@ text_upgraded i a is whole =
     ∙ ap (λ e. text_of_world a ++ (i.script.text ++ unless_whole e)) whole
     ∙ ap (λ (t : List ℕ). text_of_world a ++ t) (append-nil i.script.text)
 
--- all that `upgrade` promises, where the text of the world is read as the same world
+-- all that `upgrade` promises
 pub run_upgrade : (r : Result InputEnd Fault) (l l' : Option (List ℕ)) (entry exit : Ends) → CommandDid Upgrade r l l' entry exit → (s : Status) → s ≡ status_of r
-    → ((text : List ℕ) → l ≡ Some text → IfOk r (λ _. WorldReadsBack (upgrade_of text)))
     → Upgrades s (reports l entry.out.held entry.trail.held) (reports l' exit.out.held exit.trail.held)
-run_upgrade r l l' entry exit x s is back = record { upgraded = upgraded_by }
-  where
-    upgraded_by : s ≡ Done → WhereReported (reports_used Upgrade (reports l entry.out.held entry.trail.held)) (reports_used Upgrade (reports l' exit.out.held exit.trail.held)) (λ text out trail. UpgradedTo text out)
-    upgraded_by done text before above el eo et =
-        let all = subst (λ z. OnWhole z (WhereReported (reports_used Upgrade (reports l entry.out.held entry.trail.held)) (reports_used Upgrade (reports l' exit.out.held exit.trail.held)) (λ text out trail. (out ≡ out_of (due Upgrade text).order) × (trail ≡ trail_of (due Upgrade text).order)))) done (run_all Upgrade r _ _ _ _ (did_used Upgrade r l l' entry exit x) s is) in
-        let ends = subst (λ z. OnWhole z ((text : List ℕ) → if_used (reads_source Upgrade) l ≡ Some text → z ≡ (due Upgrade text).status)) done (ends_by Upgrade r _ _ _ _ (did_used Upgrade r l l' entry exit x) s is) in
-        let m = all text before above el eo et in
-        let i = upgrade_of text in
-        let whole : i.script.ending ≡ Whole = ends_whole i.script.ending (ends text el) in
-        let read = where_done r (WorldReadsBack i) (sym done ∙ is) (back text el) in
-        moved_with m (upgraded text m.out whole (λ a accepted. (read a accepted, m.holds.0 ∙ text_upgraded i a accepted whole)))
+run_upgrade r l l' entry exit x s is = record {
+  upgraded = λ done. reported_gives _ _ _ _ (λ text out trail w.
+      let i = upgrade_of text in
+      let whole : i.script.ending ≡ Whole = ends_whole i.script.ending w.1.0 in
+      let read = where_done r (WorldReadsBack i) (sym done ∙ is) w.1.1 in
+      upgraded text out whole (λ a accepted. (read a accepted, w.0 ∙ text_upgraded i a accepted whole))) (done_wrote Upgrade r l l' entry exit x s is done);
+}

@@ -13,23 +13,29 @@ use Rattle.lab_engine.specs.declared.opening.Opened.{Opened}
 use Rattle.lab_engine.specs.declared.opening.Opened.TheVariants as opened
 use Rattle.lab_engine.specs.declared.opening.OpenedWorld.{OpenedWorld}
 use Rattle.lab_engine.specs.declared.reporting.Tally.{Tally}
-use Rattle.lab_engine.specs.Counting.{CountsCalls}
+use Rattle.lab_engine.specs.declared.keeping.Kept.{Kept}
+use Rattle.lab_engine.specs.declared.reporting.Report.{Report}
+use Rattle.lab_engine.specs.declared.reporting.Report.TheVariants.{Counted}
+use Rattle.lab_engine.specs.Keeping.{KeepsCalls}
 use Rattle.lab_engine.specs.Input.{Accepted, Input, Script, input_of, no_world}
 use Rattle.lab_engine.specs.Opening.{OpensInput}
 use Rattle.world_text.specs.declared.format.Format.TheVariants.{Two}
 use Rattle.lab_engine.specs.Reading.{left_of}
-use Rattle.lab_engine.specs.Report.{empty_tally, tally_of}
+use Rattle.lab_engine.specs.Report.{empty_tally, report_after, tally_in, tally_of}
 use Rattle.lab_engine.specs.Session.{session_of}
 use Rattle.lab_engine.proofs.GeneratedInput.{generated_is_whole}
+use Rattle.lab_engine.proofs.RunReports.{counted_after}
 use Rattle.labsys.specs.Drilling.{drill_text, drill_text_of, drilled_text, tally_text}
 use Rattle.labsys.specs.Playing.{DrillsWorld}
 use Rattle.labsys.proofs.InputLemmas.{text_left}
 
 -- the line of what was counted, where the script was played from the first state on
-pub line_is : (n : ℕ) (a : Accepted) (s : State) → s ≡ boot a.world → (s' : State) (m : Script) (t : Tally) → CountsCalls s s' m t → (living : ℕ) → living ≡ length (map.keys s'.procs) → tally_text n t living ≡ drill_text n (session_of a m)
-line_is n a s first s' m t did living is =
+pub line_is : (n : ℕ) (a : Accepted) (s : State) → s ≡ boot a.world → (s' : State) (m : Script) (none t : Tally) → none ≡ empty_tally → (left : Option (List ℕ)) (k : Kept) → KeepsCalls (Counted none) s s' m left k → t ≡ tally_in k.report → (living : ℕ) → living ≡ length (map.keys s'.procs) → tally_text n t living ≡ drill_text n (session_of a m)
+line_is n a s first s' m none t empty left k did counted living is =
+    let tally : t ≡ tally_of empty_tally (run s m.items) =
+    counted ∙ ap tally_in did.report ∙ ap (λ (u : Tally). tally_in (report_after (Counted u) (run s m.items))) empty ∙ ap tally_in (counted_after empty_tally (run s m.items)) in
     ap (λ k. tally_text n t k) (is ∙ ap (λ (x : State). length (map.keys x.procs)) (did.state ∙ ap (λ (x : State). state_after_run x m.items) first))
-    ∙ ap (λ (k : Tally). tally_text n k (length (map.keys (state_after_run (boot a.world) m.items).procs))) (did.tally ∙ ap (λ (x : State). tally_of empty_tally (run x m.items)) first)
+    ∙ ap (λ (k : Tally). tally_text n k (length (map.keys (state_after_run (boot a.world) m.items).procs))) (tally ∙ ap (λ (x : State). tally_of empty_tally (run x m.items)) first)
 
 module _ (x : Opened) (left between : Option (List ℕ)) (opens : OpensInput Two (Ok x) left between) (n : ℕ) (is_left : left ≡ Some (gen_text n)) where
   -- the line of the generated input is that of the world that was read from it

@@ -10,6 +10,7 @@ pub mod Isolating
 pub mod LineageLemmas
 pub mod ReadableLemmas
 pub mod AnsweredLemmas
+pub mod WorldLemmas
 pub mod PlayLemmas
 pub mod SchedulePlays
 pub mod TrailLemmas

@@ -14,22 +14,21 @@ use Rattle.aud_red.proofs.TrailLemmas.{trail_is}
 use Rattle.lab_engine.specs.declared.ending.Fault.{Fault}
 use Rattle.lab_engine.specs.declared.ending.InputEnd.{InputEnd}
 use Rattle.lab_engine.specs.declared.ending.InputEnd.TheVariants.{TooMuch}
-use Rattle.lab_engine.specs.Order.{out_of, trail_of}
+use Rattle.lab_engine.specs.Order.{out_of}
 use Rattle.lab_engine.specs.Playing.{Ends}
 use Rattle.lab_engine.proofs.Sending.{out_of-to_out}
-use Rattle.labsys.specs.declared.command.Command.{Command}
 use Rattle.labsys.specs.declared.command.Command.TheVariants.{Lineage}
 use Rattle.labsys.specs.declared.status.Status.{Status}
 use Rattle.labsys.specs.declared.status.Status.TheVariants.{Done}
-use Rattle.labsys.specs.Clauses.{OnWhole, WhereReported, if_used, reports, reports_used, status_of}
+use Rattle.labsys.specs.Clauses.{reports, status_of}
 use Rattle.labsys.specs.declared.trails.ReadTrail.{ReadTrail}
 use Rattle.labsys.specs.declared.trails.ReadTrail.TheVariants as read_is
-use Rattle.labsys.specs.Commands.{due, ends_with, reads_source}
+use Rattle.labsys.specs.Commands.{due, ends_with}
 use Rattle.labsys.specs.LineageText.{SaysLineage, SaysNo, SaysYes, ending_of_lineage, lineage_text, line_for, text_of_lineage}
 use Rattle.labsys.specs.Playing.{CommandDid}
 use Rattle.labsys.specs.Promises.{ChecksLineage}
 use Rattle.labsys.specs.Trails.{trail_by, trail_in}
-use Rattle.labsys.proofs.ClauseLemmas.{did_used, ends_by, ends_whole, moved_with, run_all}
+use Rattle.labsys.proofs.ClauseLemmas.{done_wrote, ends_whole, reported_gives}
 use Rattle.labsys.proofs.TrailLemmas.{not_whole}
 
 -- ---- a trail
@@ -77,20 +76,10 @@ says_lineage text out (read_is.Trail t) is done writes = record {
 }
 says_lineage text out (read_is.Ended ending) is done writes = absurd (not_whole text ending is (ends_whole ending done))
 
-pub is_lineage : (o : Option Command) (c : Command) → o ≡ Some c → o ≡ Some Lineage → c ≡ Lineage
-is_lineage o c is lineage = let same : Some c ≡ Some Lineage = sym is ∙ lineage in cc
-
-pub as_lineage : (c : Command) (r : Result InputEnd Fault) (l l' : Option (List ℕ)) (entry exit : Ends) → c ≡ Lineage → CommandDid c r l l' entry exit → CommandDid Lineage r l l' entry exit
-as_lineage c r l l' entry exit is x = subst (λ (k : Command). CommandDid k r l l' entry exit) is x
-
 -- all that `lineage` promises
 pub run_lineage : (r : Result InputEnd Fault) (l l' : Option (List ℕ)) (entry exit : Ends) → CommandDid Lineage r l l' entry exit → (s : Status) → s ≡ status_of r
     → ChecksLineage s (reports l entry.out.held entry.trail.held) (reports l' exit.out.held exit.trail.held)
-run_lineage r l l' entry exit x s is = record { answers = answered }
-  where
-    answered : s ≡ Done → WhereReported (reports_used Lineage (reports l entry.out.held entry.trail.held)) (reports_used Lineage (reports l' exit.out.held exit.trail.held)) (λ text out trail. SaysLineage text out)
-    answered done text before above el eo et =
-        let all = subst (λ z. OnWhole z (WhereReported (reports_used Lineage (reports l entry.out.held entry.trail.held)) (reports_used Lineage (reports l' exit.out.held exit.trail.held)) (λ text out trail. (out ≡ out_of (due Lineage text).order) × (trail ≡ trail_of (due Lineage text).order)))) done (run_all Lineage r _ _ _ _ (did_used Lineage r l l' entry exit x) s is) in
-        let ends = subst (λ z. OnWhole z ((text : List ℕ) → if_used (reads_source Lineage) l ≡ Some text → z ≡ (due Lineage text).status)) done (ends_by Lineage r _ _ _ _ (did_used Lineage r l l' entry exit x) s is) in
-        let m = all text before above el eo et in
-        moved_with m (says_lineage text m.out (trail_in text) refl (ends text el) (m.holds.0 ∙ out_of-to_out (text_of_lineage (trail_in text))))
+run_lineage r l l' entry exit x s is = record {
+  answers = λ done. reported_gives _ _ _ _
+      (λ text out trail w. says_lineage text out (trail_in text) refl w.1.0 (w.0 ∙ out_of-to_out (text_of_lineage (trail_in text)))) (done_wrote Lineage r l l' entry exit x s is done);
+}

@@ -1,6 +1,6 @@
 -- What `least` promises: the world that it writes gets the same replies.
 use Rattle.std.proofs.Common.{◌≡◌, ℕ, ◌+◌, ◌≤◌, ◌==◌, not, Bool, true, false, cond, List, [], ◌∷◌, ◌++◌, length, map, refl, sym, ◌∙◌, ap, subst, arith, append_assoc}
-use Rattle.std.specs.Prelude.{Option, Some, Result, IfOk, codes}
+use Rattle.std.specs.Prelude.{Option, Some, Result, Ok, IfOk, codes}
 use Rattle.std.specs.List.{filter, join_with_byte, list_all, onto_first}
 use Rattle.std.proofs.lemmas.Bool.{and_from, and_parts, eqb-true}
 use Rattle.std.proofs.lemmas.List.{append-nil, length-append}
@@ -24,22 +24,21 @@ use Rattle.lab_engine.specs.declared.ending.InputEnd.{InputEnd}
 use Rattle.lab_engine.specs.declared.ending.InputEnd.TheVariants.{Whole}
 use Rattle.lab_engine.specs.Input.{Input, Script, input_of, script}
 use Rattle.lab_engine.specs.LeastInput.{least_of}
-use Rattle.lab_engine.specs.Order.{out_of, trail_of}
+use Rattle.lab_engine.specs.Order.{out_of}
 use Rattle.lab_engine.specs.Playing.{Ends}
 use Rattle.lab_engine.specs.Upgrading.{ReadsBack}
 use Rattle.lab_engine.proofs.LeastLaws.{IsComment, PlayedWhole, played_whole}
 use Rattle.lab_engine.proofs.Sending.{out_of-to_out}
-use Rattle.labsys.specs.declared.command.Command.{Command}
 use Rattle.labsys.specs.declared.command.Command.TheVariants.{Least}
 use Rattle.labsys.specs.declared.status.Status.{Status}
 use Rattle.labsys.specs.declared.status.Status.TheVariants.{Done}
-use Rattle.labsys.specs.Clauses.{OnWhole, WhereReported, if_used, reports, reports_used, status_of}
-use Rattle.labsys.specs.Commands.{due, reads_source}
+use Rattle.labsys.specs.Clauses.{reports, status_of}
+use Rattle.labsys.specs.Commands.{due}
 use Rattle.labsys.specs.Least.{NarrowedReadsBack, NarrowedTo, least_text, least_world, needed_by, text_of_least, unneeded, unneeded_text}
 use Rattle.labsys.specs.Playing.{CommandDid}
 use Rattle.labsys.specs.Promises.{Narrows}
 use Rattle.labsys.proofs.AcceptedLemmas.{accepted_input}
-use Rattle.labsys.proofs.ClauseLemmas.{did_used, ends_by, ends_whole, moved_with, only_done, run_all}
+use Rattle.labsys.proofs.ClauseLemmas.{done_wrote, ends_whole, only_done, reported_gives}
 
 -- ---- the first line
 
@@ -166,26 +165,16 @@ module _ (text out : List ℕ) (p : PlayedWhole text) where
 
 -- ---- a run
 
-pub is_least : (o : Option Command) (c : Command) → o ≡ Some c → o ≡ Some Least → c ≡ Least
-is_least o c is least = let same : Some c ≡ Some Least = sym is ∙ least in cc
-
-pub as_least : (c : Command) (r : Result InputEnd Fault) (l l' : Option (List ℕ)) (entry exit : Ends) → c ≡ Least → CommandDid c r l l' entry exit → CommandDid Least r l l' entry exit
-as_least c r l l' entry exit is x = subst (λ (k : Command). CommandDid k r l l' entry exit) is x
-
--- all that `least` promises, where the text of the narrowed world is read as that world
+-- all that `least` promises
 pub run_least : (r : Result InputEnd Fault) (l l' : Option (List ℕ)) (entry exit : Ends) → CommandDid Least r l l' entry exit → (s : Status) → s ≡ status_of r
-    → ((text : List ℕ) → l ≡ Some text → IfOk r (NarrowedReadsBack (least_of text)))
     → Narrows s (reports l entry.out.held entry.trail.held) (reports l' exit.out.held exit.trail.held)
-run_least r l l' entry exit x s is back = record { narrowed = narrowed_by }
+run_least r l l' entry exit x s is = record { narrowed = λ done. reported_gives _ _ _ _ (narrowed_by (only_done r (sym is ∙ done))) (done_wrote Least r l l' entry exit x s is done) }
   where
-    narrowed_by : s ≡ Done → WhereReported (reports_used Least (reports l entry.out.held entry.trail.held)) (reports_used Least (reports l' exit.out.held exit.trail.held)) (λ text out trail. NarrowedTo text out)
-    narrowed_by done text before above el eo et =
-        let all = subst (λ z. OnWhole z (WhereReported (reports_used Least (reports l entry.out.held entry.trail.held)) (reports_used Least (reports l' exit.out.held exit.trail.held)) (λ text out trail. (out ≡ out_of (due Least text).order) × (trail ≡ trail_of (due Least text).order)))) done (run_all Least r _ _ _ _ (did_used Least r l l' entry exit x) s is) in
-        let ends = subst (λ z. OnWhole z ((text : List ℕ) → if_used (reads_source Least) l ≡ Some text → z ≡ (due Least text).status)) done (ends_by Least r _ _ _ _ (did_used Least r l l' entry exit x) s is) in
-        let m = all text before above el eo et in
+    narrowed_by : r ≡ Ok Whole → (text out trail : List ℕ) → (out ≡ out_of (due Least text).order) × ((Done ≡ (due Least text).status) × IfOk r (NarrowedReadsBack (least_of text))) → NarrowedTo text out
+    narrowed_by ok text out trail w =
         let i = least_of text in
-        let p = played_whole text (ends_whole i.script.ending (ends text el)) in
-        let read = subst (λ (q : Result InputEnd Fault). IfOk q (NarrowedReadsBack i)) (only_done r (sym is ∙ done)) (back text el) refl p.world (ap (λ (i : Input). i.accepted) p.least_is) in
-        moved_with m (narrowed_to text m.out p
+        let p = played_whole text (ends_whole i.script.ending w.1.0) in
+        let read = subst (λ (q : Result InputEnd Fault). IfOk q (NarrowedReadsBack i)) ok w.1.1 refl p.world (ap (λ (i : Input). i.accepted) p.least_is) in
+        narrowed_to text out p
         (subst (λ (s : Script). ReadsBack (least_world p.world (needed_by p.world s))) (ap (λ (i : Input). i.script) p.least_is) read)
-        (m.holds.0 ∙ out_of-to_out (text_of_least i.accepted i.script) ∙ ap (λ (i : Input). text_of_least i.accepted i.script) p.least_is))
+        (w.0 ∙ out_of-to_out (text_of_least i.accepted i.script) ∙ ap (λ (i : Input). text_of_least i.accepted i.script) p.least_is)

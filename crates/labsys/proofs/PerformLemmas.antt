@@ -12,21 +12,22 @@ use Rattle.lab_engine.specs.Counts.{Counts, counted_by}
 use Rattle.lab_engine.specs.Order.{Sent, to_out}
 use Rattle.lab_engine.specs.Reading.{left_of}
 use Rattle.lab_engine.specs.Playing.{Ends, ends, SendsAll, StopsBy, Writes, faults_of}
-use Rattle.lab_engine.proofs.Progress.{not_a_read}
-use Rattle.lab_engine.proofs.Sending.{in_order, passes_on}
+use Rattle.lab_engine.proofs.Sending.{in_order, not_a_read, passes_on}
 use Rattle.labsys.specs.declared.command.Command.{Command}
 use Rattle.labsys.specs.declared.command.Command.TheVariants.{Play, Gen, Drill}
 use Rattle.labsys.specs.declared.status.Status.TheVariants.{Done}
 use Rattle.labsys.specs.Commands.{Due, LeavesAlone, due, ends_with, reads_source}
 use Rattle.labsys.specs.Drilling.{drilled_text}
 use Rattle.labsys.specs.Playing.{CommandDid}
-use Rattle.labsys.proofs.PlayLemmas.{failed_ending}
+use Rattle.labsys.proofs.TrailLemmas.{HasNoMore}
+use Rattle.labsys.proofs.WorldLemmas.{failed_ending}
 
 -- a command that reads nothing, and writes these bytes whatever a source has
 pub record WritesAlone (c : Command) (text : List ℕ) : Type 0 where
   pub is_due : (bytes : List ℕ) → due c bytes ≡ record { order = to_out text; status = Done }
   pub reads_nothing : reads_source c ≡ false
   pub is_not_play : c ≡ Play → ⊥
+  pub no_more : HasNoMore c
 
 no_read : (reads : Bool) → reads ≡ false → reads ≡ true → ⊥
 no_read reads none some = let no : true ≡ false = sym some ∙ none in absurd (cc)
@@ -45,6 +46,7 @@ module _ (c : Command) (text : List ℕ) (alone : WritesAlone c text) (r : Resul
     status = failed_ending r fault is _;
     to_the_end = λ reads. absurd (no_read _ alone.reads_nothing reads);
     by_line = λ play. absurd (alone.is_not_play play);
+    besides = alone.no_more _ r before after;
   }
 
   -- all of them were written
@@ -57,14 +59,15 @@ module _ (c : Command) (text : List ℕ) (alone : WritesAlone c text) (r : Resul
     status = subst (λ (x : Result InputEnd Fault). IfOk x (λ e. ends_with e ≡ (due c bytes).status)) (sym is) (sym (ap (λ (d : Due). d.status) (alone.is_due bytes)));
     to_the_end = λ reads. absurd (no_read _ alone.reads_nothing reads);
     by_line = λ play. absurd (alone.is_not_play play);
+    besides = alone.no_more _ r before after;
   }
 
 module _ (c : Command) (n : ℕ) where
   pub generates : c ≡ Gen n → WritesAlone c (gen_text n)
-  generates is = subst (λ (k : Command). WritesAlone k (gen_text n)) (sym is) (record { is_due = λ bytes. refl; reads_nothing = refl; is_not_play = λ play. absurd (cc) })
+  generates is = subst (λ (k : Command). WritesAlone k (gen_text n)) (sym is) (record { is_due = λ bytes. refl; reads_nothing = refl; is_not_play = λ play. absurd (cc); no_more = λ bytes r before after. tt })
 
   pub drills : c ≡ Drill n → WritesAlone c (drilled_text n)
-  drills is = subst (λ (k : Command). WritesAlone k (drilled_text n)) (sym is) (record { is_due = λ bytes. refl; reads_nothing = refl; is_not_play = λ play. absurd (cc) })
+  drills is = subst (λ (k : Command). WritesAlone k (drilled_text n)) (sym is) (record { is_due = λ bytes. refl; reads_nothing = refl; is_not_play = λ play. absurd (cc); no_more = λ bytes r before after. tt })
 
 pub left_alone : (o : Option Command) (c : Command) (source out trail : Type 0) → o ≡ Some c → LeavesAlone (Some c) source out trail → LeavesAlone o source out trail
 left_alone o c source out trail is alone = subst (λ (x : Option Command). LeavesAlone x source out trail) (sym is) alone
@@ -83,6 +86,10 @@ not_of_trail fault order n n' out out' stop is =
 pub no_trail_fault : (r : Result InputEnd Fault) (order : List Sent) (n n' : ℕ) (out out' : SinkView) → Writes r order (ends n out (sink_view None 0)) (ends n' out' (sink_view None 0)) → r ≡ Err Trail → ⊥
 no_trail_fault r order n n' out out' w is =
     not_of_trail Trail order n n' out out' (subst (λ (q : Result InputEnd Fault). Writes q order (ends n out (sink_view None 0)) (ends n' out' (sink_view None 0))) is w) refl
+
+-- the same by what it did beside a trail that has counted none
+pub no_trail_did : (c : Command) (r : Result InputEnd Fault) (l l' : Option (List ℕ)) (n n' : ℕ) (out out' : SinkView) → CommandDid c r l l' (ends n out (sink_view None 0)) (ends n' out' (sink_view None 0)) → r ≡ Err Trail → ⊥
+no_trail_did c r l l' n n' out out' did = no_trail_fault r _ n n' out out' did.writes
 
 -- a command that writes to the output alone reports no fault of the other ends
 module _ (r : Result InputEnd Fault) (fault : Fault) (bytes : List ℕ) (out out' : SinkView) (stops : (source : ℕ) (trail : SinkView) → StopsBy fault (to_out bytes) (ends source out trail) (ends source out' trail)) (by : IsErrAnd r (λ q. q ≡ fault)) where

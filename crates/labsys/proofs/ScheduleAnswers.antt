@@ -33,13 +33,6 @@ use Rattle.labsys.proofs.LoopIsolating.{loop_isolated, loop_isolated_whole, two_
 use Rattle.labsys.proofs.ProgramInputs.{accepted_programs}
 use Rattle.labsys.proofs.ReadableLemmas.{readable_by_then}
 
--- words that name a command and are those of `sched` name that
-pub is_sched : (o : Option Command) (c : Command) → o ≡ Some c → o ≡ Some Sched → c ≡ Sched
-is_sched o c is sched = let same : Some c ≡ Some Sched = sym is ∙ sched in cc
-
-pub as_sched : (c : Command) (r : Result InputEnd Fault) (l l' : Option (List ℕ)) (entry exit : Ends) → c ≡ Sched → CommandDid c r l l' entry exit → CommandDid Sched r l l' entry exit
-as_sched c r l l' entry exit is x = subst (λ (k : Command). CommandDid k r l l' entry exit) is x
-
 -- ---- what was played of a schedule
 
 module _ (a : Accepted) (s : Schedule) where
@@ -84,8 +77,12 @@ module _ (r : Result InputEnd Fault) (l l' : Option (List ℕ)) (entry exit : En
       → WhereReported before_run after_run (λ text out trail. WhereScheduled text (λ a s. P text a s out trail))
   where_run P f = where_sent Sched r l l' entry exit x _ (λ text sent rest e a s is. f text a s sent rest is (by_schedule text a s sent rest is e))
 
-  schedules_printed_by_any : ((text : List ℕ) → l ≡ Some text → ProgramsReadable (programs_of text) entry exit) → OnScheduled before_run after_run (λ a s out trail. PrintedByAny (session_by a s) out trail)
-  schedules_printed_by_any readable text before above el eo et =
+  -- what was played is readable
+  readable : (text : List ℕ) → l ≡ Some text → ProgramsReadable (programs_of text) entry exit
+  readable text el = subst (λ (z : List ℕ). ProgramsReadable (programs_of z) entry exit) (sym (text_left l l' x.taken text el x.took)) x.besides
+
+  schedules_printed_by_any : OnScheduled before_run after_run (λ a s out trail. PrintedByAny (session_by a s) out trail)
+  schedules_printed_by_any text before above el eo et =
       let p = prefix_of r (order_of_programs (programs_of (x.taken ++ left_of l'))) entry exit x.writes in
       moved l l' entry exit x.taken x.took p.sent p.sends (λ text out trail. WhereScheduled text (λ a s. PrintedByAny (session_by a s) out trail)) text before above el eo et
       (λ a s is.
@@ -113,11 +110,10 @@ module _ (r : Result InputEnd Fault) (l l' : Option (List ℕ)) (entry exit : En
     schedules_two_whole k other = whole_gives status _ _ (reported_gives before_run after_run _ _ (λ text out trail w a s found b t found' same.
         two_loops_whole k a s (accepted_programs text a s found) b t (accepted_programs other b t found') same out (all_replies text a s out found w.0))) (run_all Sched r l l' entry exit x status is)
 
-    -- what `lineage` has to write of the trail, where what was played is readable
-    schedules_answered_yes : ((text : List ℕ) → l ≡ Some text → ProgramsReadable (programs_of text) entry exit)
-        → OnWhole status (OnScheduled before_run after_run (λ a s out trail. length trail ≤ MAX_INPUT → AnsweredYes (session_by a s) trail))
-    schedules_answered_yes readable =
-        whole_gives status WholeSent _ (λ all. reported_gives before_run after_run _ _ answered (reported_both before_run after_run _ _ all (schedules_printed_by_any readable))) (run_all Sched r l l' entry exit x status is)
+    -- what `lineage` has to write of the trail
+    schedules_answered_yes : OnWhole status (OnScheduled before_run after_run (λ a s out trail. length trail ≤ MAX_INPUT → AnsweredYes (session_by a s) trail))
+    schedules_answered_yes =
+        whole_gives status WholeSent _ (λ all. reported_gives before_run after_run _ _ answered (reported_both before_run after_run _ _ all schedules_printed_by_any)) (run_all Sched r l l' entry exit x status is)
       where
         answered : (text out trail : List ℕ) → ((out ≡ out_of (due Sched text).order) × (trail ≡ trail_of (due Sched text).order)) × WhereScheduled text (λ a s. PrintedByAny (session_by a s) out trail)
             → WhereScheduled text (λ a s. length trail ≤ MAX_INPUT → AnsweredYes (session_by a s) trail)
@@ -126,9 +122,9 @@ module _ (r : Result InputEnd Fault) (l l' : Option (List ℕ)) (entry exit : En
             of_chosen a s (λ (y : Session). length trail ≤ MAX_INPUT → AnsweredYes y trail)
             (answered_yes a (chosen a s) (accepted_programs text a s found).playable trail (subst (λ (y : Session). IsTrailOf y (numbered_recs y) trail) (sym (session_is a s)) own))
 
-    -- all that `sched` promises, where what was played is readable
-    pub run_schedules : ((text : List ℕ) → l ≡ Some text → ProgramsReadable (programs_of text) entry exit) → Schedules status before_run after_run
-    run_schedules readable = record {
+    -- all that `sched` promises
+    pub run_schedules : Schedules status before_run after_run
+    run_schedules = record {
       covered = where_run (λ text a s out trail. Covered (session_by a s) out trail) (λ text a s sent rest found e. covered (session_by a s) sent rest e);
       replies_first = where_run (λ text a s out trail. RepliesFirst (session_by a s) out trail) (λ text a s sent rest found e. replies_first (session_by a s) sent rest e);
       as_played = where_run (λ text a s out trail. IsInOrder (session_order (session_of a (chosen a s))) out trail)
@@ -138,7 +134,7 @@ module _ (r : Result InputEnd Fault) (l l' : Option (List ℕ)) (entry exit : En
       two_inputs = schedules_two_inputs;
       two_whole = schedules_two_whole;
       printed = where_run (λ text a s out trail. Printed (session_by a s) out trail) (λ text a s sent rest found e. schedule_printed a s sent rest e);
-      printed_by_any = schedules_printed_by_any readable;
+      printed_by_any = schedules_printed_by_any;
       dropped = where_run (λ text a s out trail. Dropped (session_by a s) trail) (λ text a s sent rest found e. schedule_dropped a s sent rest e);
-      answered_yes = schedules_answered_yes readable;
+      answered_yes = schedules_answered_yes;
     }

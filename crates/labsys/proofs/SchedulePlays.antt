@@ -5,7 +5,6 @@ use Rattle.std.proofs.lemmas.Result.{IfOk-weaker}
 use Rattle.std.specs.Prelude.{Option, None, Some, Result, Ok, Err, IsErrAnd, IfOk}
 use Rattle.std.specs.List.{AllByRecursion, flat_map}
 use Rattle.std.specs.Io.KnownBytes.{IsAtEnd}
-use Rattle.std.proofs.KnownBytes.{Consumes-trans}
 use Rattle.io_ends.specs.LinesState.{LinesState}
 use Rattle.io_ends.specs.Ends.{SinkView}
 use Rattle.aud_record.specs.Written.{header_text, rec_text}
@@ -15,18 +14,13 @@ use Rattle.kern_model.specs.Run.{CallRecord}
 use Rattle.kern_model.specs.State.{State}
 use Rattle.lab_text.specs.Policy.{PolicyNames}
 use Rattle.iso_laws.proofs.AllLemmas.{all-append}
-use Rattle.world_text.specs.declared.format.Format.TheVariants.{Two}
 use Rattle.lab_engine.specs.declared.ending.Fault.{Fault}
 use Rattle.lab_engine.specs.declared.ending.Fault.TheVariants.{NoMemory}
 use Rattle.lab_engine.specs.declared.ending.InputEnd.{InputEnd}
 use Rattle.lab_engine.specs.declared.ending.InputEnd.TheVariants.{Whole}
-use Rattle.lab_engine.specs.declared.opening.Opened.{Opened}
-use Rattle.lab_engine.specs.declared.opening.Opened.TheVariants as opened
-use Rattle.lab_engine.specs.declared.opening.OpenedWorld.{OpenedWorld}
 use Rattle.lab_engine.specs.declared.reporting.Report.TheVariants.{All}
 use Rattle.lab_engine.specs.Counts.{Counts, counts, counted_by}
-use Rattle.lab_engine.specs.Input.{Accepted, input_of}
-use Rattle.lab_engine.specs.Opening.{OpensInput}
+use Rattle.lab_engine.specs.Input.{Accepted}
 use Rattle.lab_engine.specs.Order.{Sent, call_order, order_before_end, session_order, to_out, to_trail}
 use Rattle.lab_engine.specs.Playing.{Ends, ends, SendsAll, SendsPrefix, StopsBy, Writes}
 use Rattle.lab_engine.specs.Readable.{AreReadable, IsReadable}
@@ -39,19 +33,19 @@ use Rattle.lab_engine.proofs.Sending.{goes_on, in_order, passes_on, prefix_after
 use Rattle.sched_engine.specs.declared.reading.ReadSchedule.{ReadSchedule}
 use Rattle.sched_engine.specs.declared.reading.ReadSchedule.TheVariants as read_is
 use Rattle.sched_engine.specs.declared.schedule.Schedule.{Schedule}
-use Rattle.sched_engine.specs.Reading.{IfSchedule, ReadsSchedule, schedule_at}
+use Rattle.sched_engine.specs.Reading.{IfSchedule, ReadsSchedule}
 use Rattle.sched_engine.specs.Reporting.{AreItemsReadable, items_sends}
 use Rattle.sched_progs.specs.Loop.{loop, loop_end}
 use Rattle.sched_progs.specs.Turns.{LoopItem}
 use Rattle.sched_progs.specs.Chosen.{record_of_item}
 use Rattle.labsys.specs.declared.command.Command.TheVariants.{Sched}
-use Rattle.labsys.specs.Commands.{due_of_sched, ends_with}
-use Rattle.labsys.specs.Playing.{CommandDid, EndsAs, RunsPrograms}
+use Rattle.labsys.specs.Commands.{ends_with}
+use Rattle.labsys.specs.Playing.{DoesWorld, due_left}
 use Rattle.labsys.specs.Readable.{ProgramsReadable, RunReadable}
-use Rattle.labsys.specs.Scheduling.{HasSchedule, NoSchedule, ProgramInput, ending_of_programs, loop_of, order_of_programs, programs_of, session_by, with_schedule}
-use Rattle.labsys.proofs.InputLemmas.{reads_within, text_left}
-use Rattle.labsys.proofs.PlayLemmas.{did_all, failed_ending}
-use Rattle.labsys.proofs.ProgramInputs.{left_not_whole, no_programs, programs_left}
+use Rattle.labsys.specs.Scheduling.{HasSchedule, NoSchedule, ProgramInput, ending_of_programs, loop_of, order_of_programs, session_by, with_schedule}
+use Rattle.labsys.proofs.InputLemmas.{reads_within}
+use Rattle.labsys.proofs.WorldLemmas.{reading_stops}
+use Rattle.labsys.proofs.ProgramInputs.{left_not_whole}
 
 -- ---- a schedule that is run on an accepted world
 
@@ -146,12 +140,11 @@ ReadableBy (NoSchedule ending) before after = Unit {0}
 module _ (a : Accepted) (lines lines' : LinesState) (left left' : Option (List ℕ)) (r : Result InputEnd Fault) (n n' : ℕ) (o t : SinkView) where
   -- a fault stopped the reading
   pub reading_failed : (fault : Fault) → ReadsSchedule (Err fault) a.policy lines lines' left left' → counts n' o.faults t.faults ≡ counted_by fault (counts n o.faults t.faults) → IsErrAnd r (λ q. q ≡ fault)
-      → RunsPrograms r a lines left left' (ends n o t) (ends n' o t)
+      → DoesWorld Sched r a lines left left' (ends n o t) (ends n' o t)
   reading_failed fault read once is = record {
-    reads = reads_within lines lines' left left' read.taken read.takes;
-    writes = passes_on r fault _ (ends n o t) (ends n' o t) (record { sends = prefix_nothing _ n n' o t; one_fault = once }) is;
-    ending = failed_ending r fault is _;
-    readable = λ b s same. inr (prefix_nothing _ n n' o t);
+    wrote = reading_stops (due_left Sched a lines) r lines left left' (reads_within lines lines' left left' read.taken read.takes) n n' o t fault once is;
+    by_line = λ play. absurd (cc);
+    besides = λ b s same. inr (prefix_nothing _ n n' o t);
   }
 
   module _ (still : (u v : ℕ) → counts n' u v ≡ counts n u v) (found : ReadSchedule) (read : ReadsSchedule (Ok found) a.policy lines lines' left left') (after : Ends) where
@@ -159,70 +152,34 @@ module _ (a : Accepted) (lines lines' : LinesState) (left left' : Option (List �
     source_is = ap (λ (c : Counts). c.source) (still 0 0)
 
     -- what was found is the schedule at the reader
-    by_found : Writes r (order_of_programs (with_schedule a found)) (ends n' o t) after → IfOk r (λ e. EndsAs e (ending_of_programs (with_schedule a found)) left')
-        → ProgramsReadable (with_schedule a found) (ends n' o t) after → RunsPrograms r a lines left left' (ends n o t) after
-    by_found writes ending readable =
-        let bytes = read.taken ++ left_of left' in
+    by_found : (x : ReadSchedule) → found ≡ x → Writes r (order_of_programs (with_schedule a x)) (ends n' o t) after → IfOk r (λ e. e ≡ ending_of_programs (with_schedule a x)) → IfOk r (λ e. e ≡ Whole → IsAtEnd left')
+        → ProgramsReadable (with_schedule a x) (ends n' o t) after → DoesWorld Sched r a lines left left' (ends n o t) after
+    by_found x is writes ending to_the_end readable =
+        let same = sym is ∙ read.shows in
         record {
-          reads = reads_within lines lines' left left' read.taken read.takes;
-          writes = subst (λ (x : ReadSchedule). Writes r (order_of_programs (with_schedule a x)) (ends n o t) after) read.shows
-              (subst (λ m. Writes r (order_of_programs (with_schedule a found)) (ends m o t) after) source_is writes);
-          ending = subst (λ (x : ReadSchedule). IfOk r (λ e. EndsAs e (ending_of_programs (with_schedule a x)) left')) read.shows ending;
-          readable = subst (λ (x : ReadSchedule). ProgramsReadable (with_schedule a x) (ends n o t) after) read.shows
-              (subst (λ m. ProgramsReadable (with_schedule a found) (ends m o t) after) source_is readable);
+          wrote = record {
+            reads = reads_within lines lines' left left' read.taken read.takes;
+            writes = subst (λ (y : ReadSchedule). Writes r (order_of_programs (with_schedule a y)) (ends n o t) after) same
+                (subst (λ m. Writes r (order_of_programs (with_schedule a x)) (ends m o t) after) source_is writes);
+            status = subst (λ (y : ReadSchedule). IfOk r (λ e. ends_with e ≡ ends_with (ending_of_programs (with_schedule a y)))) same (IfOk-weaker r _ _ (λ e k. ap ends_with k) ending);
+            to_the_end = to_the_end;
+          };
+          by_line = λ play. absurd (cc);
+          besides = subst (λ (y : ReadSchedule). ProgramsReadable (with_schedule a y) (ends n o t) after) same
+              (subst (λ m. ProgramsReadable (with_schedule a x) (ends m o t) after) source_is readable);
         }
 
     -- a schedule, which was run
     pub schedule_run : (s : Schedule) → found ≡ read_is.Schedule s → Writes r (session_order (session_by a s)) (ends n' o t) after → IfOk r (λ e. e ≡ Whole) → RunReadable (session_by a s) (ends n' o t) after
-        → RunsPrograms r a lines left left' (ends n o t) after
+        → DoesWorld Sched r a lines left left' (ends n o t) after
     schedule_run s is writes whole readable =
         let scheduled_readable : (b : Accepted) (q : Schedule) → HasSchedule a s ≡ HasSchedule b q → RunReadable (session_by b q) (ends n' o t) after =
         λ b q same. subst (λ (i : ProgramInput). ReadableBy i (ends n' o t) after) same readable in
         let whole_read = subst (λ (x : ReadSchedule). IfSchedule x (λ _. IsAtEnd left')) is read.to_the_end in
-        by_found
-        (subst (λ (x : ReadSchedule). Writes r (order_of_programs (with_schedule a x)) (ends n' o t) after) (sym is) writes)
-        (subst (λ (x : ReadSchedule). IfOk r (λ e. EndsAs e (ending_of_programs (with_schedule a x)) left')) (sym is) (IfOk-weaker r _ _ (λ e same. record { same = same; to_the_end = λ _. whole_read }) whole))
-        (subst (λ (x : ReadSchedule). ProgramsReadable (with_schedule a x) (ends n' o t) after) (sym is) scheduled_readable)
+        by_found (read_is.Schedule s) is writes whole (IfOk-weaker r _ _ (λ e same all. whole_read) whole) scheduled_readable
 
     -- none: the input ends without one
-    pub without_schedule : (ending : InputEnd) → found ≡ read_is.Ended ending → Writes r (to_out (last_text 0 ending)) (ends n' o t) after → IfOk r (λ e. e ≡ ending) → RunsPrograms r a lines left left' (ends n o t) after
+    pub without_schedule : (ending : InputEnd) → found ≡ read_is.Ended ending → Writes r (to_out (last_text 0 ending)) (ends n' o t) after → IfOk r (λ e. e ≡ ending) → DoesWorld Sched r a lines left left' (ends n o t) after
     without_schedule ending is writes ended =
         let none : ending ≡ Whole → ⊥ = λ all. left_not_whole a.policy lines (read.taken ++ left_of left') ending (sym is ∙ read.shows) all in
-        by_found
-        (subst (λ (x : ReadSchedule). Writes r (order_of_programs (with_schedule a x)) (ends n' o t) after) (sym is) writes)
-        (subst (λ (x : ReadSchedule). IfOk r (λ e. EndsAs e (ending_of_programs (with_schedule a x)) left')) (sym is) (IfOk-weaker r _ _ (λ e same. record { same = same; to_the_end = λ whole. absurd (none (sym same ∙ whole)) }) ended))
-        (subst (λ (x : ReadSchedule). ProgramsReadable (with_schedule a x) (ends n' o t) after) (sym is) (λ b q same. absurd (cc)))
-
--- ---- an input that was opened
-
-module _ (x : Opened) (left between : Option (List ℕ)) (opens : OpensInput Two (Ok x) left between) where
-  module _ (w : OpenedWorld) (is : x ≡ opened.World w) (r : Result InputEnd Fault) (left' : Option (List ℕ)) (n n' : ℕ) (o t : SinkView) (still : (u v : ℕ) → counts n' u v ≡ counts n u v) (after : Ends)
-      (did : RunsPrograms r w.read w.lines between left' (ends n' o t) after) where
-    abbrev world : OpensInput Two (Ok (opened.World w)) left between
-    world = subst (λ k. OpensInput Two (Ok k) left between) is opens
-
-    abbrev whole : ProgramInput
-    whole = with_schedule w.read (schedule_at w.read.policy w.lines (did.reads.taken ++ left_of left'))
-
-    text_is : programs_of ((world.taken ++ did.reads.taken) ++ left_of left') ≡ whole
-    text_is =
-        ap programs_of (append_assoc world.taken did.reads.taken (left_of left'))
-        ∙ programs_left _ w.read w.lines (did.reads.taken ++ left_of left') (world.shows.begun (did.reads.taken ++ left_of left'))
-
-    -- its programs were run
-    pub opened_runs : CommandDid Sched r left left' (ends n o t) after
-    opened_runs = did_all x left between opens w is r left' n n' o t still after did.reads Sched (due_of_sched whole) (ap due_of_sched text_is) did.writes
-        (IfOk-weaker r _ _ (λ e ended. ap ends_with ended.same) did.ending) (IfOk-weaker r _ _ (λ e ended. ended.to_the_end) did.ending) (λ play. absurd (cc))
-
-    pub opened_programs : (text : List ℕ) → left ≡ Some text → ProgramsReadable (programs_of text) (ends n o t) after
-    opened_programs text held =
-        let same : text ≡ (world.taken ++ did.reads.taken) ++ left_of left' = text_left left left' (world.taken ++ did.reads.taken) text held (Consumes-trans left between left' world.taken did.reads.taken world.took did.reads.took) in
-        subst (λ (i : ProgramInput). ProgramsReadable i (ends n o t) after) (sym (ap programs_of same ∙ text_is))
-        (subst (λ m. ProgramsReadable whole (ends m o t) after) (ap (λ (c : Counts). c.source) (still 0 0)) did.readable)
-
-  -- it ended before its world did
-  pub no_programs_ended : (ending : InputEnd) → x ≡ opened.Ended ending → (before after : Ends) (text : List ℕ) → left ≡ Some text → ProgramsReadable (programs_of text) before after
-  no_programs_ended ending is before after text held =
-      let none = subst (λ k. OpensInput Two (Ok k) left between) is opens in
-      let same : text ≡ none.taken ++ left_of between = text_left left between none.taken text held none.took in
-      subst (λ (i : ProgramInput). ProgramsReadable i before after) (sym (no_programs text ending (ap input_of same ∙ none.shows.says))) (λ a s no. absurd (cc))
+        by_found (read_is.Ended ending) is writes ended (IfOk-weaker r _ _ (λ e same whole. absurd (none (sym same ∙ whole))) ended) (λ b q same. absurd (cc))

@@ -43,9 +43,9 @@ use Rattle.labsys.specs.declared.command.Command.TheVariants.{Lineage, Play, Sel
 use Rattle.labsys.specs.declared.trails.ReadTrail.{ReadTrail}
 use Rattle.labsys.specs.declared.trails.ReadTrail.TheVariants as read_is
 use Rattle.labsys.specs.Commands.{Due, due, ends_with}
-use Rattle.labsys.specs.Playing.{CommandDid}
+use Rattle.labsys.specs.Playing.{Besides, CommandDid}
 use Rattle.labsys.specs.Trails.{IfTrail, ReadsTrail, ending_of_error, trail_by, trail_in}
-use Rattle.labsys.proofs.PlayLemmas.{failed_ending}
+use Rattle.labsys.proofs.WorldLemmas.{failed_ending}
 
 -- ---- bytes that are no trail
 
@@ -190,7 +190,11 @@ select_is_not_play word is = absurd (cc)
 pub lineage_is_not_play : Lineage ≡ Play → ⊥
 lineage_is_not_play is = absurd (cc)
 
-module _ (c : Command) (other : c ≡ Play → ⊥) (r : Result InputEnd Fault) (left left' : Option (List ℕ)) (n n' : ℕ) where
+-- nothing holds besides of a command that reads a trail
+abbrev pub HasNoMore : Command → Type 0
+HasNoMore c = (text : List ℕ) (r : Result InputEnd Fault) (before after : Ends) → Besides c text r before after
+
+module _ (c : Command) (other : c ≡ Play → ⊥) (no_more : HasNoMore c) (r : Result InputEnd Fault) (left left' : Option (List ℕ)) (n n' : ℕ) where
   -- memory ran out, or a read failed, before a trail was read
   pub trail_fails : (fault : Fault) (o t : SinkView) → ReadsTrail (Err fault) left left' → counts n' o.faults t.faults ≡ counted_by fault (counts n o.faults t.faults) → IsErrAnd r (λ q. q ≡ fault) → CommandDid c r left left' (ends n o t) (ends n' o t)
   trail_fails fault o t reads once is = record {
@@ -201,6 +205,7 @@ module _ (c : Command) (other : c ≡ Play → ⊥) (r : Result InputEnd Fault) 
     status = failed_ending r fault is _;
     to_the_end = λ _. failed_ending r fault is _;
     by_line = λ play. absurd (other play);
+    besides = no_more _ r (ends n o t) (ends n' o t);
   }
 
   module _ (meaning : ReadTrail → Due) (means : (text : List ℕ) → due c text ≡ meaning (trail_in text)) (found : ReadTrail) (reads : ReadsTrail (Ok found) left left') (still : (u v : ℕ) → counts n' u v ≡ counts n u v) (o t : SinkView) (after : Ends) where
@@ -218,6 +223,7 @@ module _ (c : Command) (other : c ≡ Play → ⊥) (r : Result InputEnd Fault) 
           status = IfOk-weaker r _ _ (λ e is. is ∙ sym (ap (λ (d : Due). d.status) is_due)) status;
           to_the_end = λ _. to_the_end;
           by_line = λ play. absurd (other play);
+          besides = no_more _ r (ends n o t) after;
         }
 
     -- what it means of a trail

@@ -1,12 +1,12 @@
 -- The clauses of the top call where memory runs out before a command is known.
-use Rattle.std.proofs.Common.{◌≡◌, ℕ, List, [], refl, inr, arith}
+use Rattle.std.proofs.Common.{◌≡◌, ℕ, List, [], refl, arith}
 use Rattle.std.proofs.KnownBytes.{Consumes-nil}
 use Rattle.std.specs.Prelude.{true, IfSome, Option, None, Some, Err}
 use Rattle.io_ends.specs.Ends.{sink_view}
 use Rattle.lab_engine.specs.declared.ending.Fault.TheVariants.{NoMemory}
 use Rattle.lab_engine.specs.Order.{IsInOrder}
 use Rattle.lab_engine.specs.Playing.{Ends, ends}
-use Rattle.lab_engine.proofs.Sending.{prefix_nothing, stops_at_once}
+use Rattle.lab_engine.proofs.Sending.{stops_at_once}
 use Rattle.labsys.specs.declared.command.Command.{Command}
 use Rattle.labsys.specs.declared.command.Command.TheVariants.{Play, Sched, Check, Gen, Drill, View, Upgrade, Least, Select, Lineage}
 use Rattle.labsys.specs.declared.status.Status.TheVariants as status
@@ -15,6 +15,7 @@ use Rattle.labsys.specs.Commands.{LeavesAlone, due, reads_source, writes_trail}
 use Rattle.labsys.specs.Promises.{Plays}
 use Rattle.labsys.specs.ScheduleClauses.{Schedules}
 use Rattle.labsys.specs.Playing.{CommandDid}
+use Rattle.labsys.proofs.WorldLemmas.{besides_failed}
 use Rattle.labsys.proofs.ClauseLemmas.{run_order, run_play}
 use Rattle.labsys.proofs.ScheduleAnswers.{run_schedules}
 
@@ -47,6 +48,7 @@ did_nothing c l e = record {
   status = tt;
   to_the_end = λ reads. tt;
   by_line = λ play read. absurd (cc);
+  besides = besides_failed c _ (Err NoMemory) NoMemory refl e.source e.source e.out e.trail;
 }
 
 -- status 6 is not that of a whole input
@@ -69,11 +71,7 @@ module _ (l out trail : Option (List ℕ)) where
   untouched_order (Some c) = run_order c (Err NoMemory) l l still still (did_nothing c l still) (Some c) refl
 
   pub untouched_play : Plays status.NoMemory (reports l out trail) (reports l out trail)
-  untouched_play =
-      run_play (Err NoMemory) l l still still (did_nothing Play l still) status.NoMemory refl
-      (λ text is a accepted. inr (prefix_nothing _ still.source still.source still.out still.trail))
+  untouched_play = run_play (Err NoMemory) l l still still (did_nothing Play l still) status.NoMemory refl
 
   pub untouched_schedule : Schedules status.NoMemory (reports l out trail) (reports l out trail)
-  untouched_schedule =
-      run_schedules (Err NoMemory) l l still still (did_nothing Sched l still) status.NoMemory refl
-      (λ text is a s scheduled. inr (prefix_nothing _ still.source still.source still.out still.trail))
+  untouched_schedule = run_schedules (Err NoMemory) l l still still (did_nothing Sched l still) status.NoMemory refl

@@ -2,6 +2,7 @@
 use Rattle.std.proofs.Common.{◌≡◌, ℕ, ◌+◌, Bool, true, false, cond, List, [], ◌∷◌, ◌++◌, length, refl, sym, ◌∙◌, ap, subst, append_assoc, arith}
 use Rattle.std.proofs.KnownBytes.{Appends-nil}
 use Rattle.std.proofs.lemmas.List.{append-nil}
+use Rattle.std.proofs.lemmas.Result.{IfOk-weaker}
 use Rattle.std.specs.Prelude.{Option, None, Some, Result, Ok, Err, IsErrAnd, IfOk}
 use Rattle.std.specs.List.{flat_map}
 use Rattle.std.specs.Io.KnownBytes.{Appends}
@@ -32,10 +33,14 @@ use Rattle.lab_engine.specs.Texts.{ends_text, last_text, reply_text}
 use Rattle.lab_engine.specs.Viewing.{low_calls, visible_calls, some_crosses, unless_whole, view_text}
 use Rattle.lab_engine.proofs.CountLemmas.{any_trail_counts}
 use Rattle.lab_engine.proofs.RunReports.{below_after, below_reported, below_text, up_to_all}
-use Rattle.lab_engine.proofs.Sending.{goes_on, in_order, out_of_memory, passes_on, stops_longer, to_out-append, trail_of-append, trail_of-to_out}
-use Rattle.labsys.specs.Playing.{EndsAs, ViewsWorld}
+use Rattle.lab_engine.proofs.Sending.{goes_on, in_order, stops_at_once, stops_longer, to_out-append, trail_of-append, trail_of-to_out}
+use Rattle.lab_text.specs.Text.{parse_label}
+use Rattle.labsys.specs.declared.command.Command.TheVariants.{View}
+use Rattle.labsys.specs.Clauses.{TakesAtMost}
+use Rattle.labsys.specs.Commands.{ends_with}
+use Rattle.labsys.specs.Playing.{DoesWorld, WritesLeft, due_of_label}
 use Rattle.labsys.proofs.InputLemmas.{reads_nothing, reads_within}
-use Rattle.labsys.proofs.PlayLemmas.{failed_ending}
+use Rattle.labsys.proofs.WorldLemmas.{left_stops, left_written}
 
 -- ---- a trail that is not used
 
@@ -101,12 +106,8 @@ module _ (policy : PolicyNames) (l : Label) (calls : List CallRecord) (s : State
 -- ---- an accepted world
 
 -- memory ran out before a call was played
-pub view_memory : (l : Label) (a : Accepted) (r : Result InputEnd Fault) (lines : LinesState) (left : Option (List ℕ)) (e : Ends) → IsErrAnd r (λ q. q ≡ NoMemory) → ViewsWorld (Some l) r a lines left left e e
-view_memory l a r lines left e is = record {
-  reads = reads_nothing (may_take lines) left;
-  writes = out_of_memory r _ e is;
-  ending = failed_ending r NoMemory is _;
-}
+pub view_memory : (l : Label) (a : Accepted) (r : Result InputEnd Fault) (lines : LinesState) (left : Option (List ℕ)) (e : Ends) → IsErrAnd r (λ q. q ≡ NoMemory) → WritesLeft (due_of_label (Some l) a lines) r lines left left e e
+view_memory l a r lines left e is = left_stops (due_of_label (Some l) a lines) r lines left left (reads_nothing (may_take lines) left) e e NoMemory (stops_at_once _ e) is
 
 module _ (l : Label) (a : Accepted) (s : State) (s_is : s ≡ boot a.world) (r : Result InputEnd Fault) (lines lines' : LinesState) (left left' : Option (List ℕ)) (taken : List ℕ) (takes : Takes lines lines' left left' taken) (n n' : ℕ) (o o' t : SinkView) where
   abbrev m : Script
@@ -114,6 +115,9 @@ module _ (l : Label) (a : Accepted) (s : State) (s_is : s ≡ boot a.world) (r :
 
   abbrev calls : List CallRecord
   calls = run s m.items
+
+  abbrev reads : TakesAtMost (may_take lines) left left'
+  reads = reads_within lines lines' left left' taken takes
 
   abbrev written : List ℕ
   written = below_text a.policy l calls
@@ -134,14 +138,11 @@ module _ (l : Label) (a : Accepted) (s : State) (s_is : s ≡ boot a.world) (r :
   in_parts s' e state ending = sym (to_out-append written (end_in s' e)) ∙ ap to_out (text_is s' e state ending)
 
   -- a fault stopped the script
-  pub view_stops : (fault : Fault) → StopsIn a.policy (Below l 0) s m (script_at a.policy lines taken) fault (no_trail n o) (no_trail n' o') → IsErrAnd r (λ q. q ≡ fault) → ViewsWorld (Some l) r a lines left left' (ends n o t) (ends n' o' t)
-  view_stops fault stop is = record {
-    reads = reads_within lines lines' left left' taken takes;
-    writes = passes_on r fault _ (ends n o t) (ends n' o' t) (subst (λ (q : List Sent). StopsBy fault q (ends n o t) (ends n' o' t)) (in_parts (state_after_run s m.items) m.ending refl refl)
-        (stops_longer fault (to_out written) (to_out (end_in (state_after_run s m.items) m.ending)) (ends n o t) (ends n' o' t)
-        (any_trail_stops written n n' o o' t fault (subst (λ (q : List Sent). StopsBy fault q (no_trail n o) (no_trail n' o')) (below_reported a.policy l 0 1 calls) stop.stops)))) is;
-    ending = failed_ending r fault is _;
-  }
+  pub view_stops : (fault : Fault) → StopsIn a.policy (Below l 0) s m (script_at a.policy lines taken) fault (no_trail n o) (no_trail n' o') → IsErrAnd r (λ q. q ≡ fault) → WritesLeft (due_of_label (Some l) a lines) r lines left left' (ends n o t) (ends n' o' t)
+  view_stops fault stop is = left_stops (due_of_label (Some l) a lines) r lines left left' reads (ends n o t) (ends n' o' t) fault
+      (subst (λ (q : List Sent). StopsBy fault q (ends n o t) (ends n' o' t)) (in_parts (state_after_run s m.items) m.ending refl refl)
+      (stops_longer fault (to_out written) (to_out (end_in (state_after_run s m.items) m.ending)) (ends n o t) (ends n' o' t)
+      (any_trail_stops written n n' o o' t fault (subst (λ (q : List Sent). StopsBy fault q (no_trail n o) (no_trail n' o')) (below_reported a.policy l 0 1 calls) stop.stops)))) is
 
   -- the script was played
   module _ (now : SinkView) (kept : Report) (s' : State) (p : Played) (all : PlaysAll a.policy (Below l 0) kept s s' m left' p (no_trail n o) (no_trail n' now)) where
@@ -149,48 +150,46 @@ module _ (l : Label) (a : Accepted) (s : State) (s_is : s ≡ boot a.world) (r :
     end_written : (P : List ℕ → Type 0) → ((j : Label) (k : ℕ) → kept ≡ Below j k → P (ends_text (Some j) a.policy s' ++ last_text k p.ending)) → (((j : Label) (k : ℕ) → kept ≡ Below j k → ⊥) → P (unless_whole p.ending)) → P (end_in s' p.ending)
     end_written P below other = end_kept a.policy l calls s' p.ending P kept (some_crosses l calls) (all.report ∙ below_after l 0 calls) below other
 
-    all_written : Writes r (to_out (end_in s' p.ending)) (ends n' now t) (ends n' o' t) → Writes r (to_out (view_text l (session_of a m))) (ends n o t) (ends n' o' t)
-    all_written w =
-        in_order r _ _ (ends n o t) (ends n' o' t) (in_parts s' p.ending all.state all.ending)
-        (goes_on r (to_out written) (to_out (end_in s' p.ending)) (ends n o t) (ends n' now t) (ends n' o' t)
+    all_written : (x : Result InputEnd Fault) → Writes x (to_out (end_in s' p.ending)) (ends n' now t) (ends n' o' t) → Writes x (to_out (view_text l (session_of a m))) (ends n o t) (ends n' o' t)
+    all_written x w =
+        in_order x _ _ (ends n o t) (ends n' o' t) (in_parts s' p.ending all.state all.ending)
+        (goes_on x (to_out written) (to_out (end_in s' p.ending)) (ends n o t) (ends n' now t) (ends n' o' t)
         (any_trail written n n' o now t (subst (λ (q : List Sent). SendsAll q (no_trail n o) (no_trail n' now)) (below_reported a.policy l 0 1 calls) all.sends)) w)
 
     -- a fault cut the end of the output off
     pub view_cut : (fault : Fault) → ((j : Label) (k : ℕ) → kept ≡ Below j k → StopsBy fault (to_out (ends_text (Some j) a.policy s' ++ last_text k p.ending)) (ends n' now t) (ends n' o' t))
-        → (((j : Label) (k : ℕ) → kept ≡ Below j k → ⊥) → StopsBy fault (to_out (unless_whole p.ending)) (ends n' now t) (ends n' o' t)) → IsErrAnd r (λ q. q ≡ fault) → ViewsWorld (Some l) r a lines left left' (ends n o t) (ends n' o' t)
-    view_cut fault below other is = record {
-      reads = reads_within lines lines' left left' taken takes;
-      writes = all_written (passes_on r fault _ (ends n' now t) (ends n' o' t) (end_written (λ (bs : List ℕ). StopsBy fault (to_out bs) (ends n' now t) (ends n' o' t)) below other) is);
-      ending = failed_ending r fault is _;
-    }
+        → (((j : Label) (k : ℕ) → kept ≡ Below j k → ⊥) → StopsBy fault (to_out (unless_whole p.ending)) (ends n' now t) (ends n' o' t)) → IsErrAnd r (λ q. q ≡ fault) → WritesLeft (due_of_label (Some l) a lines) r lines left left' (ends n o t) (ends n' o' t)
+    view_cut fault below other is = left_stops (due_of_label (Some l) a lines) r lines left left' reads (ends n o t) (ends n' o' t) fault
+        (all_written (Err fault) (end_written (λ (bs : List ℕ). StopsBy fault (to_out bs) (ends n' now t) (ends n' o' t)) below other)) is
 
     -- all is written
     pub view_written : r ≡ Ok p.ending → ((j : Label) (k : ℕ) → kept ≡ Below j k → SendsAll (to_out (ends_text (Some j) a.policy s' ++ last_text k p.ending)) (ends n' now t) (ends n' o' t))
-        → (((j : Label) (k : ℕ) → kept ≡ Below j k → ⊥) → SendsAll (to_out (unless_whole p.ending)) (ends n' now t) (ends n' o' t)) → ViewsWorld (Some l) r a lines left left' (ends n o t) (ends n' o' t)
-    view_written is below other = record {
-      reads = reads_within lines lines' left left' taken takes;
-      writes = all_written (subst (λ (x : Result InputEnd Fault). Writes x (to_out (end_in s' p.ending)) (ends n' now t) (ends n' o' t)) (sym is) (end_written (λ (bs : List ℕ). SendsAll (to_out bs) (ends n' now t) (ends n' o' t)) below other));
-      ending = subst (λ (x : Result InputEnd Fault). IfOk x (λ e. EndsAs e m.ending left')) (sym is) (record { same = all.ending; to_the_end = all.to_the_end });
-    }
+        → (((j : Label) (k : ℕ) → kept ≡ Below j k → ⊥) → SendsAll (to_out (unless_whole p.ending)) (ends n' now t) (ends n' o' t)) → WritesLeft (due_of_label (Some l) a lines) r lines left left' (ends n o t) (ends n' o' t)
+    view_written is below other = left_written (due_of_label (Some l) a lines) r lines left left' reads (ends n o t) (ends n' o' t) p.ending is
+        (all_written (Ok p.ending) (end_written (λ (bs : List ℕ). SendsAll (to_out bs) (ends n' now t) (ends n' o' t)) below other)) (ap ends_with all.ending) all.to_the_end
 
 -- ---- the label of a word
 
-pub view_named : (found : Option Label) (l : Label) → found ≡ Some l → (parsed : Option Label) → found ≡ parsed → (r : Result InputEnd Fault) (a : Accepted) (lines : LinesState) (left left' : Option (List ℕ)) (before after : Ends)
-    → ViewsWorld (Some l) r a lines left left' before after → ViewsWorld parsed r a lines left left' before after
-view_named found l is parsed same r a lines left left' before after x = subst (λ (o : Option Label). ViewsWorld o r a lines left left' before after) (sym is ∙ same) x
+module _ (word : List ℕ) (a : Accepted) (lines : LinesState) (r : Result InputEnd Fault) (left : Option (List ℕ)) (before after : Ends) where
+  view_did : (left' : Option (List ℕ)) (o : Option Label) → o ≡ parse_label a.policy word → WritesLeft (due_of_label o a lines) r lines left left' before after → DoesWorld (View word) r a lines left left' before after
+  view_did left' o named wrote = record {
+    wrote = subst (λ (x : Option Label). WritesLeft (due_of_label x a lines) r lines left left' before after) named wrote;
+    by_line = λ play. absurd (cc);
+    besides = tt;
+  }
 
--- the refusal of a word that is no label of the world
-abbrev no_label : InputEnd
-no_label = RefusedWord command_word.View line_fault.BadLabel
+  -- a label that the word denotes
+  pub view_named : (left' : Option (List ℕ)) (found : Option Label) (l : Label) → found ≡ Some l → found ≡ parse_label a.policy word → WritesLeft (due_of_label (Some l) a lines) r lines left left' before after → DoesWorld (View word) r a lines left left' before after
+  view_named left' found l is same wrote = view_did left' (Some l) (sym is ∙ same) wrote
 
-refused_ending : (r : Result InputEnd Fault) → IfOk r (λ e. e ≡ no_label) → (left : Option (List ℕ)) → IfOk r (λ e. EndsAs e no_label left)
-refused_ending (Ok e) is left = record { same = is; to_the_end = λ whole. let no : no_label ≡ Whole = sym is ∙ whole in absurd (cc) }
-refused_ending (Err fault) is left = tt
+  -- the refusal of a word that is no label of the world
+  abbrev no_label : InputEnd
+  no_label = RefusedWord command_word.View line_fault.BadLabel
 
-pub view_refused : (found : Option Label) → found ≡ None → (parsed : Option Label) → found ≡ parsed → (r : Result InputEnd Fault) (a : Accepted) (lines : LinesState) (left : Option (List ℕ)) (before after : Ends)
-    → Writes r (to_out (last_text 0 no_label)) before after → IfOk r (λ e. e ≡ no_label) → ViewsWorld parsed r a lines left left before after
-view_refused found is parsed same r a lines left before after w ends = subst (λ (o : Option Label). ViewsWorld o r a lines left left before after) (sym is ∙ same) (record {
-  reads = reads_nothing (may_take lines) left;
-  writes = w;
-  ending = refused_ending r ends left;
-})
+  pub view_refused : (found : Option Label) → found ≡ None → found ≡ parse_label a.policy word → Writes r (to_out (last_text 0 no_label)) before after → IfOk r (λ e. e ≡ no_label) → DoesWorld (View word) r a lines left left before after
+  view_refused found is same w ended = view_did left None (sym is ∙ same) (record {
+    reads = reads_nothing (may_take lines) left;
+    writes = w;
+    status = IfOk-weaker r _ _ (λ e same. ap ends_with same) ended;
+    to_the_end = IfOk-weaker r _ _ (λ e same whole. let no : no_label ≡ Whole = sym same ∙ whole in absurd (cc)) ended;
+  })

@@ -1,21 +1,16 @@
 // An input that is read and not played.
-ghost use Rattle.std.specs.Prelude.{◌≡◌, ◌≤◌, ◌^◌, true, IfOk, length};
+ghost use Rattle.std.specs.Prelude.{◌≡◌, IfOk, length};
 ghost use Rattle.io_ends.specs.Ends.{SinkView};
 ghost use Rattle.lab_engine.specs.Playing.{WritesOut, ends};
 ghost use Rattle.labsys.specs.Checking.{checked_text, ok_text};
-ghost use Rattle.labsys.specs.Playing.{ChecksWorld, CommandDid};
+ghost use Rattle.labsys.specs.Playing.{DoesWorld, IsOpened};
 
 use crate::Command;
-use crate::playing::end_without_world;
 use io_ends::{Sink, Source};
 use kern_model::{NoMemory, World};
-use lab_engine::{
-    Fault, InputEnd, Opened, OpenedWorld, Played, Texts, answer, check_script, open_input,
-    report_last,
-};
+use lab_engine::{Fault, InputEnd, OpenedWorld, Played, Texts, answer, check_script, report_last};
 use line_text::LineWriter;
 use std::alloc::Global;
-use world_text::Format;
 
 // The line of an input that was read whole.
 #[tactic(auto, unfolding(crate::specs::Checking::ok_text))]
@@ -53,16 +48,16 @@ fn report_check<K: Sink>(
     }
 }
 
-// Reads the script after a world that was accepted, and writes what was found.
-fn check_world<S: Source, K: Sink>(
+/// Reads the script after a world that was accepted, and writes what was found: how many objects, processes and calls there
+/// are, or the line that refuses the input.
+pub fn check<S: Source, K: Sink>(
     alloc: Global,
     opened: OpenedWorld,
     source: &mut S,
     out: &mut K,
 ) -> Result<InputEnd, Fault>
-    requires more { opened.lines.more ≡ true }
-    requires small { opened.lines.room ≤ 2 ^ 24 }
-    ensures { (trail : SinkView) → ChecksWorld result opened.read opened.lines (S.view source.old).left (S.view source.new).left
+    requires { IsOpened opened }
+    ensures { (trail : SinkView) → DoesWorld Command.Check result opened.read opened.lines (S.view source.old).left (S.view source.new).left
         (ends (S.view source.old).faults (K.view out.old) trail)
         (ends (S.view source.new).faults (K.view out.new) trail) }
 {
@@ -74,21 +69,4 @@ fn check_world<S: Source, K: Sink>(
     let checked = check_script(texts, &mut lines, source)?;
     report_check(alloc, &read.world, checked, out)?;
     Ok(checked.ending)
-}
-
-/// Reads the input that a source holds, and writes what was found: how many objects, processes and calls it has, or the
-/// line that refuses it.
-pub fn check<S: Source, K: Sink>(
-    alloc: Global,
-    source: &mut S,
-    out: &mut K,
-) -> Result<InputEnd, Fault>
-    ensures { (trail : SinkView) → CommandDid Command.Check result (S.view source.old).left (S.view source.new).left
-        (ends (S.view source.old).faults (K.view out.old) trail)
-        (ends (S.view source.new).faults (K.view out.new) trail) }
-{
-    match open_input(alloc, Format::Two, source)? {
-        Opened::World(opened) => check_world(alloc, opened, source, out),
-        Opened::Ended(ending) => end_without_world(alloc, ending, out),
-    }
 }

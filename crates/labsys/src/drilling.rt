@@ -1,17 +1,16 @@
 // The generated input, played and counted.
-ghost use Rattle.std.specs.Prelude.{◌≡◌, ◌≤◌, ◌^◌, ◌++◌, true, IfOk, OnOk};
-ghost use Rattle.kern_model.specs.World.{IsWorld};
-ghost use Rattle.lab_text.specs.Policy.{top_of};
+ghost use Rattle.std.specs.Prelude.{◌≡◌, ◌≤◌, ◌++◌, IfOk, OnOk};
 ghost use Rattle.gen_world.specs.declared.generator.TheConstants.{MAX_LINES};
 ghost use Rattle.lab_engine.specs.Playing.{WritesOut};
 ghost use Rattle.labsys.specs.Drilling.{count_text, counts_text, drilled_text, tally_text};
-ghost use Rattle.labsys.specs.Playing.{DrillsWorld};
+ghost use Rattle.labsys.specs.Playing.{DrillsWorld, IsOpened};
 
 use io_ends::{Sink, Source};
 use kern_core::Kernel;
 use kern_model::NoMemory;
 use lab_engine::{
-    Fault, Generated, Opened, OpenedWorld, Tally, Texts, answer, count_script, open_input,
+    Fault, Generated, Judge, LineRules, Opened, OpenedWorld, Report, Tally, Texts, answer,
+    keep_script, open_input,
 };
 use line_text::LineWriter;
 use std::alloc::Global;
@@ -57,10 +56,7 @@ fn drill_world<S: Source>(
     opened: OpenedWorld,
     source: &mut S,
 ) -> Result<Vec<u8>, Fault>
-    requires world { IsWorld opened.read.world }
-    requires top { opened.read.world.top ≡ top_of opened.read.policy }
-    requires more { opened.lines.more ≡ true }
-    requires small { opened.lines.room ≤ 2 ^ 24 }
+    requires { IsOpened opened }
     ensures { IfOk result (λ text. DrillsWorld text.items number opened.read opened.lines (S.view source.old).left (S.view source.new).left) }
 {
     let OpenedWorld { read, mut lines } = opened;
@@ -70,8 +66,14 @@ fn drill_world<S: Source>(
         policy: &policy,
     };
     let (mut kernel, _) = Kernel::boot_from(alloc, world)?;
-    let tally = count_script(texts, &mut kernel, &mut lines, source)?;
+    let rules = LineRules {
+        texts,
+        judge: Judge::TakesAll,
+    };
+    let counted = Report::Counted(Tally::new());
+    let kept = keep_script(rules, counted, &mut kernel, &mut lines, source)?;
     let living = kernel.live()?;
+    let tally = kept.report.tally();
     let text = tally_line(alloc, number, &tally, living.items().len() as u64)?;
     Ok(text)
 }

@@ -1,15 +1,8 @@
 // What each command does.
-ghost use Rattle.std.specs.Prelude.{◌≡◌, true, ℕ, List, IfOk, Some, Err};
-ghost use Rattle.lab_engine.specs.Input.{input_of};
-ghost use Rattle.lab_engine.specs.LeastInput.{least_of};
+ghost use Rattle.std.specs.Prelude.{◌≡◌, true, Some, Err};
 ghost use Rattle.lab_engine.specs.Playing.{ends};
-ghost use Rattle.lab_engine.specs.UpgradeInput.{upgrade_of};
 ghost use Rattle.labsys.specs.Commands.{FitsCommand, LeavesAlone, reads_source, writes_trail};
-ghost use Rattle.labsys.specs.Least.{NarrowedReadsBack};
-ghost use Rattle.labsys.specs.Playing.{CommandDid};
-ghost use Rattle.labsys.specs.Readable.{InputReadable, ProgramsReadable};
-ghost use Rattle.labsys.specs.Scheduling.{programs_of};
-ghost use Rattle.labsys.specs.Upgrading.{WorldReadsBack};
+ghost use Rattle.labsys.specs.Playing.{CommandDid, format_of, reads_input};
 
 use crate::Command;
 use crate::checking::check;
@@ -17,14 +10,58 @@ use crate::drilling::drill;
 use crate::generating::generate;
 use crate::least::least;
 use crate::lineage::lineage;
-use crate::playing::play;
+use crate::playing::{end_without_world, play};
 use crate::scheduling::sched;
 use crate::selecting::select;
 use crate::upgrading::upgrade;
 use crate::viewing::view;
 use io_ends::{Sink, Source};
-use lab_engine::{Fault, InputEnd};
+use lab_engine::{Fault, InputEnd, Opened, open_input};
 use std::alloc::Global;
+use world_text::Format;
+
+// The format of the input that a command reads.
+fn format_of(command: &Command<'_>) -> Format
+    ensures { result ≡ format_of command.now }
+{
+    match command {
+        Command::Upgrade => Format::One,
+        _ => Format::Two,
+    }
+}
+
+// Opens the input that a command reads, and performs the command on its world and on what follows it. Of an input without a
+// world it writes the last line.
+fn perform_on_input<S: Source, K: Sink, T: Sink>(
+    alloc: Global,
+    command: Command<'_>,
+    source: &mut S,
+    out: &mut K,
+    trail: &mut T,
+) -> Result<InputEnd, Fault>
+    requires { reads_input command ≡ true }
+    ensures did { CommandDid command.entry result (S.view source.old).left (S.view source.new).left
+        (ends (S.view source.old).faults (K.view out.old) (T.view trail.old))
+        (ends (S.view source.new).faults (K.view out.new) (T.view trail.new)) }
+    ensures alone { LeavesAlone (Some command.entry) (source.new ≡ source.old) (out.new ≡ out.old) (trail.new ≡ trail.old) }
+    ensures trail_fault { result ≡ Err Fault.Trail → writes_trail command.entry ≡ true }
+{
+    let opened = match open_input(alloc, format_of(&command), source)? {
+        Opened::World(opened) => opened,
+        Opened::Ended(ending) => return end_without_world(alloc, ending, out),
+    };
+    match command {
+        Command::Play => play(alloc, opened, source, out, trail),
+        Command::Sched => sched(alloc, opened, source, out, trail),
+        Command::Check => check(alloc, opened, source, out),
+        Command::View(word) => view(alloc, word, opened, source, out),
+        Command::Upgrade => upgrade(alloc, opened, source, out),
+        Command::Least => least(alloc, opened, source, out),
+        Command::Gen(_) | Command::Drill(_) | Command::Select(_) | Command::Lineage => {
+            unreachable!()
+        }
+    }
+}
 
 /// Performs a command, and returns how its input ends.
 pub fn perform<S: Source, K: Sink, T: Sink>(
@@ -42,19 +79,8 @@ pub fn perform<S: Source, K: Sink, T: Sink>(
     // A fault is one of an end that the command uses.
     ensures read_fault { result ≡ Err Fault.Read → reads_source command.entry ≡ true }
     ensures trail_fault { result ≡ Err Fault.Trail → writes_trail command.entry ≡ true }
-    ensures readable { command.entry ≡ Command.Play → (text : List ℕ) → (S.view source.old).left ≡ Some text → InputReadable (input_of text)
-        (ends (S.view source.old).faults (K.view out.old) (T.view trail.old))
-        (ends (S.view source.new).faults (K.view out.new) (T.view trail.new)) }
-    ensures programs { command.entry ≡ Command.Sched → (text : List ℕ) → (S.view source.old).left ≡ Some text → ProgramsReadable (programs_of text)
-        (ends (S.view source.old).faults (K.view out.old) (T.view trail.old))
-        (ends (S.view source.new).faults (K.view out.new) (T.view trail.new)) }
-    ensures back { command.entry ≡ Command.Upgrade → (text : List ℕ) → (S.view source.old).left ≡ Some text → IfOk result (λ _. WorldReadsBack (upgrade_of text)) }
-    ensures narrowed { command.entry ≡ Command.Least → (text : List ℕ) → (S.view source.old).left ≡ Some text → IfOk result (NarrowedReadsBack (least_of text)) }
 {
     match command {
-        Command::Play => play(alloc, source, out, trail),
-        Command::Sched => sched(alloc, source, out, trail),
-        Command::Check => check(alloc, source, out),
         Command::Gen(lines) => {
             generate(alloc, lines, out)?;
             Ok(InputEnd::Whole)
@@ -63,10 +89,13 @@ pub fn perform<S: Source, K: Sink, T: Sink>(
             drill(alloc, lines, out)?;
             Ok(InputEnd::Whole)
         }
-        Command::View(word) => view(alloc, word, source, out),
-        Command::Upgrade => upgrade(alloc, source, out),
-        Command::Least => least(alloc, source, out),
         Command::Select(word) => select(alloc, word, source, out),
         Command::Lineage => lineage(alloc, source, out),
+        Command::Play
+        | Command::Sched
+        | Command::Check
+        | Command::View(_)
+        | Command::Upgrade
+        | Command::Least => perform_on_input(alloc, command, source, out, trail),
     }
 }

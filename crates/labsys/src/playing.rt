@@ -1,13 +1,9 @@
-// An input that is played, from its first byte to the last line.
-ghost use Rattle.std.specs.Prelude.{◌≡◌, ℕ, ◌≤◌, ◌^◌, ◌++◌, [], true, cond, IfOk, List, Some};
-ghost use Rattle.kern_model.specs.World.{IsWorld};
+// A world that is played with its script, to the last line of the output.
+ghost use Rattle.std.specs.Prelude.{◌≡◌, ◌++◌, [], cond, IfOk};
 ghost use Rattle.kern_core.specs.Kernel.{state_of};
-ghost use Rattle.lab_text.specs.Policy.{top_of};
-ghost use Rattle.lab_engine.specs.Input.{input_of};
 ghost use Rattle.lab_engine.specs.Playing.{WritesOut, ends};
 ghost use Rattle.lab_engine.specs.Texts.{caps_in, end_text, ends_text, is_viewed, label_in, last_text};
-ghost use Rattle.labsys.specs.Playing.{CommandDid, PlaysWorld};
-ghost use Rattle.labsys.specs.Readable.{InputReadable};
+ghost use Rattle.labsys.specs.Playing.{DoesWorld, IsOpened};
 
 use crate::Command;
 use crate::session::Session;
@@ -15,12 +11,11 @@ use io_ends::{Sink, Source};
 use kern_core::Kernel;
 use kern_model::{NoMemory, Pid};
 use lab_engine::{
-    Fault, InputEnd, Opened, OpenedWorld, Played, Report, Texts, answer, end_line, open_input,
-    report_last, write_head,
+    Fault, InputEnd, OpenedWorld, Played, Report, Texts, answer, end_line, report_last, write_head,
 };
 use lab_lattice::{Label, Lattice};
 use std::alloc::Global;
-use world_text::{Format, WorldText};
+use world_text::WorldText;
 
 // Whether the end line of a process is written, by the label that views the run, if one does.
 fn is_viewed(viewer: &Option<Label>, who: &Pid) -> bool
@@ -90,19 +85,17 @@ pub fn finish<K: Sink>(
     report_last(texts.alloc, played.count, played.ending, out)
 }
 
-// Plays a world that was accepted, with the script after it. The kernel uses the world up, so that no object is kept twice.
-fn play_world<S: Source, K: Sink, T: Sink>(
+/// Plays a world that was accepted and the script after it, line by line: replies go to the output, records to the trail. The
+/// kernel uses the world up, so that no object is kept twice.
+pub fn play<S: Source, K: Sink, T: Sink>(
     alloc: Global,
     opened: OpenedWorld,
     source: &mut S,
     out: &mut K,
     trail: &mut T,
 ) -> Result<InputEnd, Fault>
-    requires world { IsWorld opened.read.world }
-    requires top { opened.read.world.top ≡ top_of opened.read.policy }
-    requires more { opened.lines.more ≡ true }
-    requires small { opened.lines.room ≤ 2 ^ 24 }
-    ensures { PlaysWorld result opened.read opened.lines (S.view source.old).left (S.view source.new).left
+    requires { IsOpened opened }
+    ensures { DoesWorld Command.Play result opened.read opened.lines (S.view source.old).left (S.view source.new).left
         (ends (S.view source.old).faults (K.view out.old) (T.view trail.old))
         (ends (S.view source.new).faults (K.view out.new) (T.view trail.new)) }
 {
@@ -137,24 +130,4 @@ pub fn end_without_world<K: Sink>(
 {
     report_last(alloc, 0, ending, out)?;
     Ok(ending)
-}
-
-/// Plays the input that a source holds, line by line: replies go to the output, records to the trail.
-pub fn play<S: Source, K: Sink, T: Sink>(
-    alloc: Global,
-    source: &mut S,
-    out: &mut K,
-    trail: &mut T,
-) -> Result<InputEnd, Fault>
-    ensures did { CommandDid Command.Play result (S.view source.old).left (S.view source.new).left
-        (ends (S.view source.old).faults (K.view out.old) (T.view trail.old))
-        (ends (S.view source.new).faults (K.view out.new) (T.view trail.new)) }
-    ensures readable { (text : List ℕ) → (S.view source.old).left ≡ Some text → InputReadable (input_of text)
-        (ends (S.view source.old).faults (K.view out.old) (T.view trail.old))
-        (ends (S.view source.new).faults (K.view out.new) (T.view trail.new)) }
-{
-    match open_input(alloc, Format::Two, source)? {
-        Opened::World(opened) => play_world(alloc, opened, source, out, trail),
-        Opened::Ended(ending) => end_without_world(alloc, ending, out),
-    }
 }

@@ -1,22 +1,22 @@
-// An input of programs, which are played in turns by label.
-ghost use Rattle.std.specs.Prelude.{◌≡◌, ℕ, true, List, Some};
+// A world with programs, which are played in turns by label.
+ghost use Rattle.std.specs.Prelude.{◌≡◌, ℕ};
 ghost use Rattle.kern_model.specs.World.{IsWorld};
 ghost use Rattle.lab_text.specs.Policy.{top_of};
 ghost use Rattle.lab_engine.specs.Order.{session_order};
 ghost use Rattle.lab_engine.specs.Playing.{WritesBoth, ends};
 ghost use Rattle.sched_engine.specs.Schedule.{MayBePlayed};
-ghost use Rattle.labsys.specs.Playing.{CommandDid, RunsPrograms};
-ghost use Rattle.labsys.specs.Readable.{ProgramsReadable, RunReadable};
-ghost use Rattle.labsys.specs.Scheduling.{programs_of, session_by};
+ghost use Rattle.labsys.specs.Playing.{DoesWorld, IsOpened};
+ghost use Rattle.labsys.specs.Readable.{RunReadable};
+ghost use Rattle.labsys.specs.Scheduling.{session_by};
 
 use crate::Command;
 use crate::playing::{end_without_world, finish};
 use io_ends::{Sink, Source};
 use kern_core::Kernel;
-use lab_engine::{Fault, InputEnd, Opened, OpenedWorld, Played, Texts, open_input, write_head};
+use lab_engine::{Fault, InputEnd, OpenedWorld, Played, Texts, write_head};
 use sched_engine::{ReadSchedule, Schedule, read_schedule, report_programs};
 use std::alloc::Global;
-use world_text::{Format, WorldText};
+use world_text::WorldText;
 
 // Runs programs on a world that was accepted, and writes what they do. The kernel uses the world up.
 fn run_schedule<K: Sink, T: Sink>(
@@ -49,18 +49,17 @@ fn run_schedule<K: Sink, T: Sink>(
     finish(texts, &kernel, &None, played, out)
 }
 
-// Reads the programs that follow a world that was accepted, to the end of the input, and then runs them.
-fn run_world<S: Source, K: Sink, T: Sink>(
+/// Reads the programs that follow a world that was accepted, to the end of the input, and then runs them: replies go to the
+/// output, records to the trail.
+pub fn sched<S: Source, K: Sink, T: Sink>(
     alloc: Global,
     opened: OpenedWorld,
     source: &mut S,
     out: &mut K,
     trail: &mut T,
 ) -> Result<InputEnd, Fault>
-    requires world { IsWorld opened.read.world }
-    requires top { opened.read.world.top ≡ top_of opened.read.policy }
-    requires more { opened.lines.more ≡ true }
-    ensures { RunsPrograms result opened.read opened.lines (S.view source.old).left (S.view source.new).left
+    requires { IsOpened opened }
+    ensures { DoesWorld Command.Sched result opened.read opened.lines (S.view source.old).left (S.view source.new).left
         (ends (S.view source.old).faults (K.view out.old) (T.view trail.old))
         (ends (S.view source.new).faults (K.view out.new) (T.view trail.new)) }
 {
@@ -76,26 +75,5 @@ fn run_world<S: Source, K: Sink, T: Sink>(
             Ok(InputEnd::Whole)
         }
         ReadSchedule::Ended(ending) => end_without_world(alloc, ending, out),
-    }
-}
-
-/// Runs the programs of the input that a source holds, which is read to its end before the first turn: replies go to the output,
-/// records to the trail.
-pub fn sched<S: Source, K: Sink, T: Sink>(
-    alloc: Global,
-    source: &mut S,
-    out: &mut K,
-    trail: &mut T,
-) -> Result<InputEnd, Fault>
-    ensures did { CommandDid Command.Sched result (S.view source.old).left (S.view source.new).left
-        (ends (S.view source.old).faults (K.view out.old) (T.view trail.old))
-        (ends (S.view source.new).faults (K.view out.new) (T.view trail.new)) }
-    ensures readable { (text : List ℕ) → (S.view source.old).left ≡ Some text → ProgramsReadable (programs_of text)
-        (ends (S.view source.old).faults (K.view out.old) (T.view trail.old))
-        (ends (S.view source.new).faults (K.view out.new) (T.view trail.new)) }
-{
-    match open_input(alloc, Format::Two, source)? {
-        Opened::World(opened) => run_world(alloc, opened, source, out, trail),
-        Opened::Ended(ending) => end_without_world(alloc, ending, out),
     }
 }

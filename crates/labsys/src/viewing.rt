@@ -1,8 +1,6 @@
-// An input that is viewed from a label.
-ghost use Rattle.std.specs.Prelude.{◌≡◌, ◌≢◌, ◌≤◌, ◌^◌, ◌++◌, ℕ, true, Some};
-ghost use Rattle.kern_model.specs.World.{IsWorld};
+// A world that is viewed from a label as it is played.
+ghost use Rattle.std.specs.Prelude.{◌≡◌, ◌≢◌, ◌++◌, ℕ, Some};
 ghost use Rattle.kern_core.specs.Kernel.{state_of};
-ghost use Rattle.lab_text.specs.Policy.{top_of};
 ghost use Rattle.lab_text.specs.Text.{parse_label};
 ghost use Rattle.io_ends.specs.Ends.{SinkView};
 ghost use Rattle.lab_lattice.specs.Label.{Label};
@@ -10,22 +8,19 @@ ghost use Rattle.lab_engine.specs.declared.reporting.Report.TheVariants as a_rep
 ghost use Rattle.lab_engine.specs.Playing.{WritesOut, ends};
 ghost use Rattle.lab_engine.specs.Texts.{ends_text, last_text};
 ghost use Rattle.lab_engine.specs.Viewing.{unless_whole};
-ghost use Rattle.labsys.specs.Playing.{CommandDid, ViewsWorld};
+ghost use Rattle.labsys.specs.Playing.{DoesWorld, IsOpened, WritesLeft, due_of_label};
 
 use crate::playing::{end_without_world, finish};
 use crate::session::Session;
 use crate::{Argument, Command};
 use io_ends::{Sink, Source, SureSink};
 use kern_core::Kernel;
-use lab_engine::{
-    CommandWord, Fault, InputEnd, Opened, OpenedWorld, Played, Report, Texts, open_input,
-    report_last,
-};
+use lab_engine::{CommandWord, Fault, InputEnd, OpenedWorld, Played, Report, Texts, report_last};
 use lab_lattice::Label;
 use lab_text::{Policy, mac_from_text};
 use line_text::LineFault;
 use std::alloc::Global;
-use world_text::{Format, WorldText};
+use world_text::WorldText;
 
 /// Writes the last line of an input that is not whole.
 pub fn report_unless_whole<K: Sink>(
@@ -62,25 +57,22 @@ fn finish_view<K: Sink>(
             };
             finish(texts, kernel, &Some(label), seen, out)
         }
-        Report::All | Report::Crossed | Report::Counted(_) => {
+        Report::All | Report::Crossed | Report::Counted(_) | Report::Named(_) => {
             report_unless_whole(texts.alloc, ending, out)
         }
     }
 }
 
 // Plays the script of an accepted world, and writes what a label sees of it.
-fn view_world<S: Source, K: Sink>(
+fn view_from<S: Source, K: Sink>(
     alloc: Global,
     label: Label,
     opened: OpenedWorld,
     source: &mut S,
     out: &mut K,
 ) -> Result<InputEnd, Fault>
-    requires world { IsWorld opened.read.world }
-    requires top { opened.read.world.top ≡ top_of opened.read.policy }
-    requires more { opened.lines.more ≡ true }
-    requires small { opened.lines.room ≤ 2 ^ 24 }
-    ensures { (trail : SinkView) → ViewsWorld (Some label) result opened.read opened.lines (S.view source.old).left (S.view source.new).left
+    requires { IsOpened opened }
+    ensures { (trail : SinkView) → WritesLeft (due_of_label (Some label) opened.read opened.lines) result opened.lines (S.view source.old).left (S.view source.new).left
         (ends (S.view source.old).faults (K.view out.old) trail)
         (ends (S.view source.new).faults (K.view out.new) trail) }
 {
@@ -109,26 +101,25 @@ fn label_named(policy: &Policy, word: &Argument<'_>) -> Option<Label>
     mac_from_text(policy, word.bytes()).ok()
 }
 
-/// Plays the input that a source holds, and writes what the label of a word sees of it: the replies up to the first call
-/// that crosses the label, and the line `crossed`, or else the end lines and how many replies were written.
+/// Plays a world that was accepted and the script after it, and writes what the label of a word sees of it: the replies up to
+/// the first call that crosses the label, and the line `crossed`, or else the end lines and how many replies were written.
 pub fn view<S: Source, K: Sink>(
     alloc: Global,
     word: Argument<'_>,
+    opened: OpenedWorld,
     source: &mut S,
     out: &mut K,
 ) -> Result<InputEnd, Fault>
-    ensures { (trail : SinkView) → CommandDid (Command.View word.entry) result (S.view source.old).left (S.view source.new).left
+    requires { IsOpened opened }
+    ensures { (trail : SinkView) → DoesWorld (Command.View word.entry) result opened.read opened.lines (S.view source.old).left (S.view source.new).left
         (ends (S.view source.old).faults (K.view out.old) trail)
         (ends (S.view source.new).faults (K.view out.new) trail) }
 {
-    match open_input(alloc, Format::Two, source)? {
-        Opened::World(opened) => {
-            let Some(label) = label_named(&opened.read.policy, &word) else {
-                let ending = InputEnd::RefusedWord(CommandWord::View, LineFault::BadLabel);
-                return end_without_world(alloc, ending, out);
-            };
-            view_world(alloc, label, opened, source, out)
+    match label_named(&opened.read.policy, &word) {
+        Some(label) => view_from(alloc, label, opened, source, out),
+        None => {
+            let ending = InputEnd::RefusedWord(CommandWord::View, LineFault::BadLabel);
+            end_without_world(alloc, ending, out)
         }
-        Opened::Ended(ending) => end_without_world(alloc, ending, out),
     }
 }

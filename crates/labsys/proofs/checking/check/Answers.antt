@@ -1,18 +1,18 @@
 use Rattle.std.proofs.Common.{refl}
-use Rattle.labsys.proofs.PlayLemmas.{ended_writes, open_fails, opened_checks, opened_more, opened_small}
+use Rattle.labsys.proofs.CheckLemmas.{check_fails, found_fails, found_written}
 use Rattle.labsys.proofs.checking.check.Goals as goal
 
-pub returns-in_err-opened : goal.returns-in_err-opened
-returns-in_err-opened g c = λ trail. open_fails _ _ _ _ _ c.in_err-opened.ensures.opens _ _ _ trail (c.in_err-opened.ensures.counts _ _) c.from_residual.ensures.1 refl
+pub returns-in_err-checked : goal.returns-in_err-checked
+returns-in_err-checked g c = λ trail.
+    let did = c.in_err-checked.ensures.checks in
+    check_fails c.args.opened.read _ _ _ _ _ did.taken did.takes _ _ _ trail _ (c.in_err-checked.ensures.counts _ _) c.from_residual.ensures.1
 
-pub check_world-requires-clause-more : goal.check_world-requires-clause-more
-check_world-requires-clause-more g c = opened_more _ _ _ c.in_ok-opened.ensures.opens c.in-World.opened c.in-World.is
+pub returns-in_err-report_check : goal.returns-in_err-report_check
+returns-in_err-report_check g c = λ trail.
+    let did = c.in_ok-checked.ensures.checks in
+    found_fails c.args.opened.read _ _ _ _ _ did.taken did.takes _ _ _ trail c.in_ok-checked.ensures.counts c.in_ok-checked.checked did.did _ _ (c.in_err-report_check.ensures _ trail) c.from_residual-in_err-report_check.ensures.1
 
-pub check_world-requires-clause-small : goal.check_world-requires-clause-small
-check_world-requires-clause-small g c = opened_small _ _ _ c.in_ok-opened.ensures.opens c.in-World.opened c.in-World.is
-
-pub returns-in-World : goal.returns-in-World
-returns-in-World g c = λ trail. opened_checks _ _ _ c.in_ok-opened.ensures.opens c.in-World.opened c.in-World.is c.check_world.result _ _ _ _ trail c.in_ok-opened.ensures.counts _ (c.check_world.ensures trail)
-
-pub returns-in-Ended : goal.returns-in-Ended
-returns-in-Ended g c = λ trail. ended_writes _ _ _ c.in_ok-opened.ensures.opens c.in-Ended.ending c.in-Ended.is _ refl refl c.end_without_world.result _ _ _ _ trail c.in_ok-opened.ensures.counts c.end_without_world.ensures.writes c.end_without_world.ensures.ending
+pub returns : goal.returns
+returns g c = λ trail.
+    let did = c.in_ok-checked.ensures.checks in
+    found_written c.args.opened.read _ _ _ _ _ did.taken did.takes _ _ _ trail c.in_ok-checked.ensures.counts c.in_ok-checked.checked did.did _ refl (c.in_ok-report_check.ensures _ trail)

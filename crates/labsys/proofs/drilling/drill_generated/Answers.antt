@@ -3,20 +3,11 @@ use Rattle.std.proofs.lemmas.Result.{IfOk-weaker}
 use Rattle.std.specs.Prelude.{Some}
 use Rattle.lab_engine.specs.Generated.{GeneratedState}
 use Rattle.labsys.proofs.DrillLemmas.{drilled, never_ends}
-use Rattle.labsys.proofs.PlayLemmas.{opened_more, opened_playable, opened_small}
+use Rattle.labsys.proofs.WorldLemmas.{is_opened}
 use Rattle.labsys.proofs.drilling.drill_generated.Goals as goal
 
-pub drill_world-requires-clause-world : goal.drill_world-requires-clause-world
-drill_world-requires-clause-world c = (opened_playable _ _ _ c.in_ok-opened.ensures.opens c.in-World.opened c.in-World.is).1.world
-
-pub drill_world-requires-clause-top : goal.drill_world-requires-clause-top
-drill_world-requires-clause-top c = (opened_playable _ _ _ c.in_ok-opened.ensures.opens c.in-World.opened c.in-World.is).1.top
-
-pub drill_world-requires-clause-more : goal.drill_world-requires-clause-more
-drill_world-requires-clause-more c = opened_more _ _ _ c.in_ok-opened.ensures.opens c.in-World.opened c.in-World.is
-
-pub drill_world-requires-clause-small : goal.drill_world-requires-clause-small
-drill_world-requires-clause-small c = opened_small _ _ _ c.in_ok-opened.ensures.opens c.in-World.opened c.in-World.is
+pub drill_world-requires : goal.drill_world-requires
+drill_world-requires c = is_opened _ _ _ c.in_ok-opened.ensures.opens c.in-World.opened c.in-World.is
 
 pub unreachable-requires : goal.unreachable-requires
 unreachable-requires c =

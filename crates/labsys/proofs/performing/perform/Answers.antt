@@ -1,7 +1,8 @@
-use Rattle.std.proofs.Common.{refl}
+use Rattle.std.proofs.Common.{[], refl}
 use Rattle.std.specs.Prelude.{None}
 use Rattle.io_ends.specs.Ends.{sink_view}
 use Rattle.labsys.proofs.PerformLemmas.{alone_fails, alone_written, drills, generates, no_read_beside, no_trail_beside, no_trail_fault}
+use Rattle.labsys.proofs.WorldLemmas.{reads_one}
 use Rattle.labsys.proofs.performing.perform.Goals as goal
 
 pub returns-in_err-generate-in-Gen-clause-did : goal.returns-in_err-generate-in-Gen-clause-did
@@ -16,23 +17,11 @@ returns-in_err-drill-in-Drill-clause-did g c = alone_fails _ _ (drills _ _ c.in-
 pub returns-in_ok-drill-in-Drill-clause-did : goal.returns-in_ok-drill-in-Drill-clause-did
 returns-in_ok-drill-in-Drill-clause-did g c = alone_written _ _ (drills _ _ c.in-Drill.is) _ _ _ _ refl (c.in_ok-drill-in-Drill.ensures _ _)
 
-pub returns-in-Check-clause-trail_fault : goal.returns-in-Check-clause-trail_fault
-returns-in-Check-clause-trail_fault g c = λ is. absurd (no_trail_fault c.check.result _ _ _ _ _ (c.check.ensures (sink_view None 0)).writes is)
-
-pub returns-in-Upgrade-clause-trail_fault : goal.returns-in-Upgrade-clause-trail_fault
-returns-in-Upgrade-clause-trail_fault g c = λ is. absurd (no_trail_fault c.upgrade.result _ _ _ _ _ (c.upgrade.ensures.did (sink_view None 0)).writes is)
-
-pub returns-in-Least-clause-trail_fault : goal.returns-in-Least-clause-trail_fault
-returns-in-Least-clause-trail_fault g c = λ is. absurd (no_trail_fault c.least.result _ _ _ _ _ (c.least.ensures.did (sink_view None 0)).writes is)
-
 pub returns-in-Select-clause-trail_fault : goal.returns-in-Select-clause-trail_fault
 returns-in-Select-clause-trail_fault g c = λ is. absurd (no_trail_fault c.select.result _ _ _ _ _ (c.select.ensures (sink_view None 0)).writes is)
 
 pub returns-in-Lineage-clause-trail_fault : goal.returns-in-Lineage-clause-trail_fault
 returns-in-Lineage-clause-trail_fault g c = λ is. absurd (no_trail_fault c.lineage.result _ _ _ _ _ (c.lineage.ensures (sink_view None 0)).writes is)
-
-pub returns-in-View-clause-trail_fault : goal.returns-in-View-clause-trail_fault
-returns-in-View-clause-trail_fault g c = λ is. absurd (no_trail_fault c.view.result _ _ _ _ _ (c.view.ensures (sink_view None 0)).writes is)
 
 pub returns-in_err-generate-in-Gen-clause-read_fault : goal.returns-in_err-generate-in-Gen-clause-read_fault
 returns-in_err-generate-in-Gen-clause-read_fault g c = λ is. absurd (no_read_beside _ _ _ _ _ c.in_err-generate-in-Gen.ensures c.from_residual.ensures.1 is)
@@ -45,3 +34,6 @@ returns-in_err-drill-in-Drill-clause-read_fault g c = λ is. absurd (no_read_bes
 
 pub returns-in_err-drill-in-Drill-clause-trail_fault : goal.returns-in_err-drill-in-Drill-clause-trail_fault
 returns-in_err-drill-in-Drill-clause-trail_fault g c = λ is. absurd (no_trail_beside _ _ _ _ _ c.in_err-drill-in-Drill.ensures c.from_residual-in_err-drill-in-Drill.ensures.1 is)
+
+pub perform_on_input-requires : goal.perform_on_input-requires
+perform_on_input-requires g c = reads_one _ [] c.in-Play.is

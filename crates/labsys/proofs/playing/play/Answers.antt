@@ -1,34 +1,40 @@
-use Rattle.std.proofs.Common.{inr, refl}
-use Rattle.lab_engine.proofs.Sending.{prefix_nothing}
-use Rattle.labsys.proofs.PlayLemmas.{ended_readable, ended_writes, open_fails, opened_more, opened_playable, opened_plays, opened_readable, opened_small}
+use Rattle.std.proofs.Common.{◌∙◌, ap, refl}
+use Rattle.std.specs.Prelude.{None}
+use Rattle.io_ends.specs.Ends.{sink_view}
+use Rattle.kern_model.specs.State.{State}
+use Rattle.kern_core.specs.Kernel.{state_of}
+use Rattle.iso_laws.proofs.Laws.{top_boot}
+use Rattle.lab_engine.proofs.Sending.{not_a_read}
+use Rattle.labsys.proofs.PlayLemmas.{boot_fails, end_fails, head_fails, script_fails, world_played}
 use Rattle.labsys.proofs.playing.play.Goals as goal
 
-pub returns-in_err-opened-clause-did : goal.returns-in_err-opened-clause-did
-returns-in_err-opened-clause-did g c = open_fails _ _ _ _ _ c.in_err-opened.ensures.opens _ _ _ _ (c.in_err-opened.ensures.counts _ _) c.from_residual.ensures.1 refl
+pub play-requires-clause-top : goal.play-requires-clause-top
+play-requires-clause-top g c = ap (λ (s : State). s.top) c.in_ok-kernel.ensures.state ∙ top_boot c.args.opened.read.world ∙ c.requires.top
 
-pub returns-in_err-opened-clause-readable : goal.returns-in_err-opened-clause-readable
-returns-in_err-opened-clause-readable g c = λ text is a accepted. inr (prefix_nothing _ _ _ _ _)
+pub returns-in_err-kernel : goal.returns-in_err-kernel
+returns-in_err-kernel g c = boot_fails c.args.opened.read _ refl _ refl _ _ _ _ c.from_residual.ensures.1
 
-pub play_world-requires-clause-world : goal.play_world-requires-clause-world
-play_world-requires-clause-world g c = (opened_playable _ _ _ c.in_ok-opened.ensures.opens c.in-World.opened c.in-World.is).1.world
+pub returns-in_err-write_head : goal.returns-in_err-write_head
+returns-in_err-write_head g c =
+    head_fails c.args.opened.read c.items.result.now (c.items.ensures ∙ c.in_ok-kernel.ensures.recs) (state_of c.in_ok-kernel.kernel) c.in_ok-kernel.ensures.state _ _ _ _
+    _ _ (c.in_err-write_head.ensures.writes _ _) (not_a_read _ _ _ _ _ _ (c.in_err-write_head.ensures.writes 0 (sink_view None 0))) c.from_residual-in_err-write_head.ensures.1
 
-pub play_world-requires-clause-top : goal.play_world-requires-clause-top
-play_world-requires-clause-top g c = (opened_playable _ _ _ c.in_ok-opened.ensures.opens c.in-World.opened c.in-World.is).1.top
+pub returns-in_err-played : goal.returns-in_err-played
+returns-in_err-played g c =
+    let did = c.in_err-played.ensures in
+    script_fails c.args.opened.read c.items.result.now (c.items.ensures ∙ c.in_ok-kernel.ensures.recs) (state_of c.in_ok-kernel.kernel) c.in_ok-kernel.ensures.state _ _ _ _
+    _ (c.in_ok-write_head.ensures.writes _ _) _ _ did.taken did.takes _ _ did.did c.from_residual-in_err-played.ensures.1
 
-pub play_world-requires-clause-more : goal.play_world-requires-clause-more
-play_world-requires-clause-more g c = opened_more _ _ _ c.in_ok-opened.ensures.opens c.in-World.opened c.in-World.is
+pub returns-in_err-finish : goal.returns-in_err-finish
+returns-in_err-finish g c =
+    let did = c.in_ok-played.ensures in
+    end_fails c.args.opened.read c.items.result.now (c.items.ensures ∙ c.in_ok-kernel.ensures.recs) (state_of c.in_ok-kernel.kernel) c.in_ok-kernel.ensures.state _ _ _ _
+    _ (c.in_ok-write_head.ensures.writes _ _) _ _ did.taken did.takes _ c.in_ok-write_head.ensures.readable _ _ c.in_ok-played.played _ did.did
+    _ (c.in_err-finish.ensures _ _) (not_a_read _ _ _ _ _ _ (c.in_err-finish.ensures 0 (sink_view None 0))) c.from_residual-in_err-finish.ensures.1
 
-pub play_world-requires-clause-small : goal.play_world-requires-clause-small
-play_world-requires-clause-small g c = opened_small _ _ _ c.in_ok-opened.ensures.opens c.in-World.opened c.in-World.is
-
-pub returns-in-World-clause-did : goal.returns-in-World-clause-did
-returns-in-World-clause-did g c = opened_plays _ _ _ c.in_ok-opened.ensures.opens c.in-World.opened c.in-World.is c.play_world.result _ _ _ _ _ c.in_ok-opened.ensures.counts _ c.play_world.ensures
-
-pub returns-in-World-clause-readable : goal.returns-in-World-clause-readable
-returns-in-World-clause-readable g c = opened_readable _ _ _ c.in_ok-opened.ensures.opens c.in-World.opened c.in-World.is c.play_world.result _ _ _ _ _ c.in_ok-opened.ensures.counts _ c.play_world.ensures
-
-pub returns-in-Ended-clause-did : goal.returns-in-Ended-clause-did
-returns-in-Ended-clause-did g c = ended_writes _ _ _ c.in_ok-opened.ensures.opens c.in-Ended.ending c.in-Ended.is _ refl refl c.end_without_world.result _ _ _ _ _ c.in_ok-opened.ensures.counts c.end_without_world.ensures.writes c.end_without_world.ensures.ending
-
-pub returns-in-Ended-clause-readable : goal.returns-in-Ended-clause-readable
-returns-in-Ended-clause-readable g c = ended_readable _ _ _ c.in_ok-opened.ensures.opens c.in-Ended.ending c.in-Ended.is _ _
+pub returns : goal.returns
+returns g c =
+    let did = c.in_ok-played.ensures in
+    world_played c.args.opened.read c.items.result.now (c.items.ensures ∙ c.in_ok-kernel.ensures.recs) (state_of c.in_ok-kernel.kernel) c.in_ok-kernel.ensures.state _ _ _ _
+    _ (c.in_ok-write_head.ensures.writes _ _) _ _ did.taken did.takes _ c.in_ok-write_head.ensures.readable _ _ c.in_ok-played.played _ did.did
+    refl (c.in_ok-finish.ensures _ _)

@@ -1,8 +1,8 @@
 use Rattle.std.proofs.Common.{◌∙◌, refl, sym}
-use Rattle.labsys.proofs.ClauseLemmas.{as_play, as_upgrade, as_view, is_play, is_upgrade, run_counts, run_ending, run_few, run_order, run_play, run_read_fault, run_to_the_end, run_trail_fault, run_upgrade, run_view, run_whole}
-use Rattle.labsys.proofs.ScheduleAnswers.{as_sched, is_sched, run_schedules}
-use Rattle.labsys.proofs.LineageAnswers.{as_lineage, is_lineage, run_lineage}
-use Rattle.labsys.proofs.NarrowedLemmas.{as_least, is_least, run_least}
+use Rattle.labsys.proofs.ClauseLemmas.{as_named, run_counts, run_ending, run_few, run_order, run_play, run_read_fault, run_to_the_end, run_trail_fault, run_upgrade, run_view, run_whole}
+use Rattle.labsys.proofs.ScheduleAnswers.{run_schedules}
+use Rattle.labsys.proofs.LineageAnswers.{run_lineage}
+use Rattle.labsys.proofs.NarrowedLemmas.{run_least}
 use Rattle.labsys.proofs.PerformLemmas.{left_alone}
 use Rattle.labsys.proofs.InputLemmas.{reads_nothing}
 use Rattle.labsys.proofs.UntouchedLemmas.{untouched_alone, untouched_order, untouched_play, untouched_read_fault, untouched_schedule, untouched_to_the_end, untouched_trail_fault, where_named}
@@ -30,31 +30,22 @@ pub returns-in-Some-clause-ending : goal.returns-in-Some-clause-ending
 returns-in-Some-clause-ending g c = run_ending _ c.perform.result _ _ _ _ c.perform.ensures.did _ c.status_of.ensures _ (sym c.in-Ok.ensures.command ∙ c.in-Some.is)
 
 pub returns-in-Some-clause-play : goal.returns-in-Some-clause-play
-returns-in-Some-clause-play g c = λ play.
-    let same = is_play _ _ (sym c.in-Ok.ensures.command ∙ c.in-Some.is) play in
-    run_play c.perform.result _ _ _ _ (as_play _ _ _ _ _ _ same c.perform.ensures.did) _ c.status_of.ensures (c.perform.ensures.readable same)
+returns-in-Some-clause-play g c = λ play. run_play c.perform.result _ _ _ _ (as_named _ _ _ _ _ _ _ _ (sym c.in-Ok.ensures.command ∙ c.in-Some.is) play c.perform.ensures.did) _ c.status_of.ensures
 
 pub returns-in-Some-clause-sched : goal.returns-in-Some-clause-sched
-returns-in-Some-clause-sched g c = λ sched.
-    let same = is_sched _ _ (sym c.in-Ok.ensures.command ∙ c.in-Some.is) sched in
-    run_schedules c.perform.result _ _ _ _ (as_sched _ _ _ _ _ _ same c.perform.ensures.did) _ c.status_of.ensures (c.perform.ensures.programs same)
+returns-in-Some-clause-sched g c = λ sched. run_schedules c.perform.result _ _ _ _ (as_named _ _ _ _ _ _ _ _ (sym c.in-Ok.ensures.command ∙ c.in-Some.is) sched c.perform.ensures.did) _ c.status_of.ensures
 
 pub returns-in-Some-clause-view : goal.returns-in-Some-clause-view
-returns-in-Some-clause-view g c = λ word view. run_view word c.perform.result _ _ _ _ (as_view _ _ word _ _ _ _ _ (sym c.in-Ok.ensures.command ∙ c.in-Some.is) view c.perform.ensures.did) _ c.status_of.ensures
+returns-in-Some-clause-view g c = λ word view. run_view word c.perform.result _ _ _ _ (as_named _ _ _ _ _ _ _ _ (sym c.in-Ok.ensures.command ∙ c.in-Some.is) view c.perform.ensures.did) _ c.status_of.ensures
 
 pub returns-in-Some-clause-lineage : goal.returns-in-Some-clause-lineage
-returns-in-Some-clause-lineage g c = λ lineage.
-    run_lineage c.perform.result _ _ _ _ (as_lineage _ _ _ _ _ _ (is_lineage _ _ (sym c.in-Ok.ensures.command ∙ c.in-Some.is) lineage) c.perform.ensures.did) _ c.status_of.ensures
+returns-in-Some-clause-lineage g c = λ lineage. run_lineage c.perform.result _ _ _ _ (as_named _ _ _ _ _ _ _ _ (sym c.in-Ok.ensures.command ∙ c.in-Some.is) lineage c.perform.ensures.did) _ c.status_of.ensures
 
 pub returns-in-Some-clause-upgrade : goal.returns-in-Some-clause-upgrade
-returns-in-Some-clause-upgrade g c = λ upgrade.
-    let same = is_upgrade _ _ (sym c.in-Ok.ensures.command ∙ c.in-Some.is) upgrade in
-    run_upgrade c.perform.result _ _ _ _ (as_upgrade _ _ _ _ _ _ same c.perform.ensures.did) _ c.status_of.ensures (c.perform.ensures.back same)
+returns-in-Some-clause-upgrade g c = λ upgrade. run_upgrade c.perform.result _ _ _ _ (as_named _ _ _ _ _ _ _ _ (sym c.in-Ok.ensures.command ∙ c.in-Some.is) upgrade c.perform.ensures.did) _ c.status_of.ensures
 
 pub returns-in-Some-clause-least : goal.returns-in-Some-clause-least
-returns-in-Some-clause-least g c = λ least.
-    let same = is_least _ _ (sym c.in-Ok.ensures.command ∙ c.in-Some.is) least in
-    run_least c.perform.result _ _ _ _ (as_least _ _ _ _ _ _ same c.perform.ensures.did) _ c.status_of.ensures (c.perform.ensures.narrowed same)
+returns-in-Some-clause-least g c = λ least. run_least c.perform.result _ _ _ _ (as_named _ _ _ _ _ _ _ _ (sym c.in-Ok.ensures.command ∙ c.in-Some.is) least c.perform.ensures.did) _ c.status_of.ensures
 
 pub returns-in-Some-clause-few : goal.returns-in-Some-clause-few
 returns-in-Some-clause-few g c = run_few _ c.perform.result _ _ _ _ c.perform.ensures.did

@@ -1,32 +1,31 @@
-use Rattle.std.proofs.Common.{inr, refl}
-use Rattle.lab_engine.proofs.Sending.{prefix_nothing}
-use Rattle.labsys.proofs.PlayLemmas.{ended_writes, open_fails, opened_more, opened_playable}
-use Rattle.labsys.proofs.SchedulePlays.{no_programs_ended, opened_programs, opened_runs}
+use Rattle.std.proofs.Common.{refl, subst}
+use Rattle.lab_text.specs.Policy.{top_of}
+use Rattle.lab_engine.proofs.Sending.{passes_on}
+use Rattle.sched_engine.specs.declared.reading.ReadSchedule.{ReadSchedule}
+use Rattle.sched_engine.specs.Reading.{IfSchedule}
+use Rattle.sched_engine.specs.Schedule.{MayBePlayed}
+use Rattle.labsys.proofs.WorldLemmas.{failed_ending}
+use Rattle.labsys.proofs.SchedulePlays.{reading_failed, schedule_run, without_schedule}
 use Rattle.labsys.proofs.scheduling.sched.Goals as goal
 
-pub returns-in_err-opened-clause-did : goal.returns-in_err-opened-clause-did
-returns-in_err-opened-clause-did g c = open_fails _ _ _ _ _ c.in_err-opened.ensures.opens _ _ _ _ (c.in_err-opened.ensures.counts _ _) c.from_residual.ensures.1 refl
+pub returns-in_err-found : goal.returns-in_err-found
+returns-in_err-found g c = reading_failed c.args.opened.read c.args.opened.lines _ _ _ _ _ _ _ _ _ c.in_err-found.ensures.reads (c.in_err-found.ensures.counts _ _) c.from_residual.ensures.1
 
-pub returns-in_err-opened-clause-readable : goal.returns-in_err-opened-clause-readable
-returns-in_err-opened-clause-readable g c = λ text is a s scheduled. inr (prefix_nothing _ _ _ _ _)
+pub run_schedule-requires-clause-plays : goal.run_schedule-requires-clause-plays
+run_schedule-requires-clause-plays g c = subst (λ (x : ReadSchedule). IfSchedule x (MayBePlayed (top_of c.args.opened.read.policy))) c.in-Schedule.is c.in_ok-found.ensures.plays
 
-pub run_world-requires-clause-world : goal.run_world-requires-clause-world
-run_world-requires-clause-world g c = (opened_playable _ _ _ c.in_ok-opened.ensures.opens c.in-World.opened c.in-World.is).1.world
+pub returns-in_err-run_schedule-in-Schedule : goal.returns-in_err-run_schedule-in-Schedule
+returns-in_err-run_schedule-in-Schedule g c =
+    schedule_run c.args.opened.read c.args.opened.lines _ _ _ _ _ _ _ _ c.in_ok-found.ensures.counts _ c.in_ok-found.ensures.reads _ c.in-Schedule.schedule c.in-Schedule.is
+    (passes_on _ _ _ _ _ (c.in_err-run_schedule-in-Schedule.ensures.writes _) c.from_residual-in_err-run_schedule-in-Schedule.ensures.1)
+    (failed_ending _ _ c.from_residual-in_err-run_schedule-in-Schedule.ensures.1 _) (c.in_err-run_schedule-in-Schedule.ensures.readable _)
 
-pub run_world-requires-clause-top : goal.run_world-requires-clause-top
-run_world-requires-clause-top g c = (opened_playable _ _ _ c.in_ok-opened.ensures.opens c.in-World.opened c.in-World.is).1.top
+pub returns-in_ok-run_schedule-in-Schedule : goal.returns-in_ok-run_schedule-in-Schedule
+returns-in_ok-run_schedule-in-Schedule g c =
+    schedule_run c.args.opened.read c.args.opened.lines _ _ _ _ _ _ _ _ c.in_ok-found.ensures.counts _ c.in_ok-found.ensures.reads _ c.in-Schedule.schedule c.in-Schedule.is
+    (c.in_ok-run_schedule-in-Schedule.ensures.writes _) refl (c.in_ok-run_schedule-in-Schedule.ensures.readable _)
 
-pub run_world-requires-clause-more : goal.run_world-requires-clause-more
-run_world-requires-clause-more g c = opened_more _ _ _ c.in_ok-opened.ensures.opens c.in-World.opened c.in-World.is
-
-pub returns-in-World-clause-did : goal.returns-in-World-clause-did
-returns-in-World-clause-did g c = opened_runs _ _ _ c.in_ok-opened.ensures.opens c.in-World.opened c.in-World.is c.run_world.result _ _ _ _ _ c.in_ok-opened.ensures.counts _ c.run_world.ensures
-
-pub returns-in-World-clause-readable : goal.returns-in-World-clause-readable
-returns-in-World-clause-readable g c = opened_programs _ _ _ c.in_ok-opened.ensures.opens c.in-World.opened c.in-World.is c.run_world.result _ _ _ _ _ c.in_ok-opened.ensures.counts _ c.run_world.ensures
-
-pub returns-in-Ended-clause-did : goal.returns-in-Ended-clause-did
-returns-in-Ended-clause-did g c = ended_writes _ _ _ c.in_ok-opened.ensures.opens c.in-Ended.ending c.in-Ended.is _ refl refl c.end_without_world.result _ _ _ _ _ c.in_ok-opened.ensures.counts c.end_without_world.ensures.writes c.end_without_world.ensures.ending
-
-pub returns-in-Ended-clause-readable : goal.returns-in-Ended-clause-readable
-returns-in-Ended-clause-readable g c = no_programs_ended _ _ _ c.in_ok-opened.ensures.opens c.in-Ended.ending c.in-Ended.is _ _
+pub returns-in-Ended : goal.returns-in-Ended
+returns-in-Ended g c =
+    without_schedule c.args.opened.read c.args.opened.lines _ _ _ _ _ _ _ _ c.in_ok-found.ensures.counts _ c.in_ok-found.ensures.reads _ c.in-Ended.ending c.in-Ended.is
+    (c.end_without_world.ensures.writes _ _) c.end_without_world.ensures.ending

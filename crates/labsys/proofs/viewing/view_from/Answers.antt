@@ -3,7 +3,7 @@ use Rattle.kern_model.specs.State.{State}
 use Rattle.kern_core.specs.Kernel.{state_of}
 use Rattle.iso_laws.proofs.Laws.{top_boot}
 use Rattle.labsys.proofs.ViewedLemmas.{view_cut, view_memory, view_stops, view_written}
-use Rattle.labsys.proofs.viewing.view_world.Goals as goal
+use Rattle.labsys.proofs.viewing.view_from.Goals as goal
 
 pub play-requires-clause-top : goal.play-requires-clause-top
 play-requires-clause-top g c = ap (λ (s : State). s.top) c.in_ok-kernel.ensures.state ∙ top_boot c.args.opened.read.world ∙ c.requires.top
