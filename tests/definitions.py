@@ -1,11 +1,13 @@
 #!/usr/bin/env python3
 """Lists the definitions that the clauses of `run` use: what a reader of its contract has to believe.
 
-    definitions.py            prints the files that have such definitions, and how many lines these take
+    definitions.py            prints the files that have such definitions, and how many lines these take: all, and for `play` alone
     definitions.py --print    prints the definitions
     definitions.py --check    prints nothing, and fails where docs/THEOREMS.md lists other files
 
-A definition is used where the file of `run` imports it, or a definition that is used names it.
+A definition is used where the file of `run` imports it, or a definition that is used names it. For `play` alone the clauses of
+other commands are left out, and of a definition by cases of the command those of other commands. The case of `lineage` counts,
+since `play` promises what `lineage` has to write of its trail.
 """
 import pathlib
 import re
@@ -16,6 +18,8 @@ CRATES = TOP / "crates"
 RUN = CRATES / "labsys" / "src" / "running.rt"
 USE = re.compile(r"^\s*(?:ghost )?(?:pub )?use Rattle\.(\w+)\.specs\.([\w.]+?)(?:\.\{([^}]*)\})?(?: as (\w+))?;?$", re.M)
 HEAD = re.compile(r"^(\s*)(?:(?:unfoldable|abbrev|pub) )*(?:(record|data) (\S+)|(\S+) :(?= ))")
+OF_OTHERS = {"Schedules", "Views", "Upgrades", "Narrows", "ChecksLineage"}
+CASE_OF_OTHERS = re.compile(r"^\w+ (?:\(Some )?\(?(?:Sched|Check|Gen|Drill|View|Upgrade|Least|Select)\b")
 NAME = re.compile(r"[\w'◌-]+(?:\.[\w'-]+)*")
 
 
@@ -87,17 +91,24 @@ def blocks_of(text):
     return found
 
 
-def used():
-    """The definitions that are used, from the clauses of `run` on, as a set of blocks for each file."""
+def lines_used(block, play):
+    """The lines of a definition that count, for `play` alone or for all commands."""
+    return [line for line in block.lines if not (play and CASE_OF_OTHERS.match(line))]
+
+
+def used(play=False):
+    """The definitions that are used, from the clauses of `run` on, as a list of blocks for each file."""
     files, found = {RUN: File(RUN)}, {}
     todo = list(files[RUN].uses(RUN.read_text(encoding="utf-8")))
     while todo:
         path, name = todo.pop()
+        if play and name in OF_OTHERS:
+            continue
         file = files.setdefault(path, None) or files.update({path: File(path)}) or files[path]
         block = file.blocks.get(name)
         if block is not None and block not in found.setdefault(path, set()):
             found[path].add(block)
-            todo.extend(file.uses("\n".join(block.lines)))
+            todo.extend(file.uses("\n".join(lines_used(block, play))))
     return {path: [b for b in dict.fromkeys(files[path].blocks.values()) if b in blocks] for path, blocks in sorted(found.items()) if blocks}
 
 
@@ -107,6 +118,11 @@ def rows_of(definitions):
     for path in definitions:
         folders.setdefault(path.parent.relative_to(CRATES), []).append(f"`{path.stem}`")
     return [f"| `crates/{folder}` | {', '.join(names)} |" for folder, names in folders.items()]
+
+
+def count(play):
+    """How many lines the definitions take."""
+    return sum(len(lines_used(b, play)) for blocks in used(play).values() for b in blocks)
 
 
 def print_definitions(definitions):
@@ -127,7 +143,7 @@ def main():
         print_definitions(definitions)
     else:
         print("\n".join(rows))
-        print(f"{sum(len(b.lines) for blocks in definitions.values() for b in blocks):,} lines")
+        print(f"{count(False):,} lines, {count(True):,} of them for play alone")
 
 
 if __name__ == "__main__":
