@@ -7,42 +7,19 @@ ghost use Rattle.clap.specs.Words.{app_of, first_value, found_of};
 ghost use Rattle.lab_usage.specs.CommandLine.{command_line};
 ghost use Rattle.lab_usage.specs.Words.{given_words, is_argument};
 
+mod commands;
 mod mistakes;
 
 use clap::error::ErrorKind;
 use clap::{Arg, ArgMatches, Command};
+use commands::details_of_commands;
 pub use mistakes::mistake;
 use std::alloc::{AllocError, Global};
 use std::marker::Model;
 
 const ABOUT: &str = "A simulated kernel that plays scripts of system calls";
 
-const DETAILS: &str = "\
-Commands:
-  play FILE   plays the world and the script of standard input: the reply to each call goes to
-              standard output, and its records go to FILE
-  sched FILE  plays the world and the programs of standard input, each process by its own, in turns
-              by label; the replies go to standard output, and the records to FILE
-  view LABEL  plays them, and writes to standard output what LABEL sees of the replies
-  check       reads them, plays nothing, and writes to standard output how many objects,
-              processes and calls they have
-  gen N       writes a generated world with a script of N lines to standard output, N from 1 to
-              100000
-  drill N     plays that world and script, and writes to standard output how many calls were done,
-              denied and refused, how many exercises of capabilities were recorded, and how many
-              processes live at the end
-  upgrade     reads an input of the old format, whose first line is 'world 1' and which play, view
-              and check refuse with old_format, and writes it to standard output in the format of
-              today, whose first line is 'world 2'
-  least       plays the world and the script of standard input, and writes to standard output the
-              world without the capabilities that the script never needed, after a line that names
-              them
-  select SPEC reads a trail, and writes the records that SPEC picks to standard output, a line of
-              JSON for each; SPEC is all, or some of pid=PID, label=LABEL, event=WORD and cap=NAME
-              with ; between them
-  lineage     reads a trail, and writes to standard output whether each of its records can follow
-              those before it
-
+const NOTES: &str = "\
 As the only word, --help prints this text, and --version the version.
 
 Exit status:
@@ -104,8 +81,8 @@ fn are_arguments(words: &[String]) -> bool
     words.iter().all(|word| is_argument(word.as_bytes()))
 }
 
-// The command line. Its words are those after the program's name.
-fn command_line<'a>(alloc: Global) -> Result<Command<'a>, AllocError>
+// The command line, with what its help says of the commands. Its words are those after the program's name.
+fn command_line<'a>(alloc: Global, details: &'a str) -> Result<Command<'a>, AllocError>
     ensures { IfOk result (λ command. app_of command ≡ command_line) }
 {
     let command = Arg::new(alloc, "COMMAND")
@@ -121,7 +98,7 @@ fn command_line<'a>(alloc: Global) -> Result<Command<'a>, AllocError>
             .no_binary_name(true)
             .arg(command)?
             .arg(argument)?
-            .after_help(DETAILS),
+            .after_help(details),
     )
 }
 
@@ -148,24 +125,31 @@ pub fn words_given<'a>(
     if !are_arguments(words) {
         return Ok(None);
     }
-    match command_line(alloc)?.try_get_matches_from(words) {
+    match command_line(alloc, "")?.try_get_matches_from(words) {
         Ok(matches) => Ok(given_of(&matches)),
         Err(error) if error.kind() == ErrorKind::OutOfMemory => Err(AllocError),
         Err(_) => Ok(None),
     }
 }
 
+// What the help says of the commands: their lines, and what holds of all of them.
+fn details(alloc: Global) -> Result<String, AllocError> {
+    let commands = details_of_commands(alloc)?;
+    format!(in alloc; "Commands:\n{commands}\n{NOTES}")
+}
+
 /// The text of the help.
 pub fn help(alloc: Global) -> Result<String, AllocError> {
-    command_line(alloc)?.render_help()
+    let details = details(alloc)?;
+    command_line(alloc, details.as_str())?.render_help()
 }
 
 /// The text of the version.
 pub fn version(alloc: Global) -> Result<String, AllocError> {
-    command_line(alloc)?.render_version()
+    command_line(alloc, "")?.render_version()
 }
 
 /// The usage line.
 pub fn usage(alloc: Global) -> Result<String, AllocError> {
-    command_line(alloc)?.render_usage()
+    command_line(alloc, "")?.render_usage()
 }

@@ -1,97 +1,7 @@
 // What is wrong with words that name no command.
 
+use crate::commands::{ArgumentHelp, CommandHelp, help_of};
 use std::alloc::{AllocError, Global};
-
-// A command, as a line of help shows it.
-struct CommandHelp {
-    // Its word.
-    word: &'static str,
-    // Its whole line.
-    usage: &'static str,
-    // Its argument and what that is, where it takes one.
-    argument: Option<&'static str>,
-    // What the argument may be.
-    form: &'static str,
-    // What it does.
-    about: &'static str,
-}
-
-const NOT_EMPTY: &str = "is a word that is not empty and does not begin with -";
-
-const LINES: &str = "is a number from 1 to 100000, of at most 6 digits";
-
-static COMMANDS: [CommandHelp; 10] = [
-    CommandHelp {
-        word: "play",
-        usage: "labsys play FILE < WORLD",
-        argument: Some("FILE, where the trail goes"),
-        form: NOT_EMPTY,
-        about: "plays WORLD; the replies go to standard output, and the trail to FILE",
-    },
-    CommandHelp {
-        word: "sched",
-        usage: "labsys sched FILE < PROGRAMS",
-        argument: Some("FILE, where the trail goes"),
-        form: NOT_EMPTY,
-        about: "plays a world by the programs of its processes; the trail goes to FILE",
-    },
-    CommandHelp {
-        word: "view",
-        usage: "labsys view LABEL < WORLD",
-        argument: Some("LABEL, which sees the replies"),
-        form: NOT_EMPTY,
-        about: "plays WORLD; what LABEL sees of the replies goes to standard output",
-    },
-    CommandHelp {
-        word: "check",
-        usage: "labsys check < WORLD",
-        argument: None,
-        form: "",
-        about: "counts the objects, processes and calls of WORLD",
-    },
-    CommandHelp {
-        word: "gen",
-        usage: "labsys gen N",
-        argument: Some("N, the number of calls"),
-        form: LINES,
-        about: "writes a generated world with a script of N calls",
-    },
-    CommandHelp {
-        word: "drill",
-        usage: "labsys drill N",
-        argument: Some("N, the number of calls"),
-        form: LINES,
-        about: "plays the world that gen N writes, and counts the answers",
-    },
-    CommandHelp {
-        word: "upgrade",
-        usage: "labsys upgrade < OLD",
-        argument: None,
-        form: "",
-        about: "writes OLD, an input of the old format, in the format of today",
-    },
-    CommandHelp {
-        word: "least",
-        usage: "labsys least < WORLD",
-        argument: None,
-        form: "",
-        about: "plays WORLD, and writes it without the capabilities that its script never needed",
-    },
-    CommandHelp {
-        word: "select",
-        usage: "labsys select SPEC < TRAIL",
-        argument: Some("SPEC, which picks records"),
-        form: NOT_EMPTY,
-        about: "writes the records of TRAIL that SPEC picks, a line of JSON for each",
-    },
-    CommandHelp {
-        word: "lineage",
-        usage: "labsys lineage < TRAIL",
-        argument: None,
-        form: "",
-        about: "says whether each record of TRAIL can follow those before it",
-    },
-];
 
 // Whether a word asks for help.
 fn asks_for_help(word: &str) -> bool {
@@ -99,28 +9,28 @@ fn asks_for_help(word: &str) -> bool {
 }
 
 impl CommandHelp {
-    // Its whole line, and what it does.
-    fn help(&self, alloc: Global) -> Result<String, AllocError> {
-        format!(in alloc; "{}\n{}", self.usage, self.about)
-    }
-
     // What is wrong with the words after that of the command.
     fn mistake(&self, alloc: Global, words: &[String]) -> Result<String, AllocError> {
-        let usage = self.usage;
         match (words, self.argument) {
             ([word], _) if asks_for_help(word.as_str()) => self.help(alloc),
-            ([], Some(argument)) => format!(in alloc; "{} needs {argument}: {usage}", self.word),
-            ([_], Some(argument)) => {
-                let name = argument.split(',').next().unwrap_or(argument);
-                format!(in alloc; "{name} {}", self.form)
-            }
+            ([], Some(argument)) => self.needs(alloc, argument),
+            ([_], Some(argument)) => format!(in alloc; "{} {}", argument.name, argument.form),
             (_, _) => self.surplus(alloc, words),
         }
     }
 
+    // What is wrong where the argument is missing.
+    fn needs(&self, alloc: Global, argument: ArgumentHelp) -> Result<String, AllocError> {
+        let usage = self.usage(alloc)?;
+        format!(in alloc;
+            "{} needs {}, {}: {usage}",
+            self.word, argument.name, argument.purpose
+        )
+    }
+
     // What is wrong where there are too many words.
     fn surplus(&self, alloc: Global, words: &[String]) -> Result<String, AllocError> {
-        let usage = self.usage;
+        let usage = self.usage(alloc)?;
         if let Some(option) = words.iter().find(|word| word.as_str().starts_with('-')) {
             return format!(in alloc; "labsys has no option {:?}: {usage}", option.as_str());
         }
@@ -132,11 +42,6 @@ impl CommandHelp {
             count => format!(in alloc; "{} has {count} words too many: {usage}", self.word),
         }
     }
-}
-
-// The help of the command with a word.
-fn help_of(word: &str) -> Option<&'static CommandHelp> {
-    COMMANDS.iter().find(|command| command.word == word)
 }
 
 // What is wrong with words of which the first is no command.
