@@ -7,5 +7,6 @@ python3 tests/answers.py || exit $?
 python3 tests/differences.py || exit $?
 python3 tests/call_index.py --check || exit $?
 python3 tests/labask_profile.py --check || exit $?
+python3 tests/command_table.py --check || exit $?
 tests/check_types.sh || exit $?
 python3 tests/pages.py

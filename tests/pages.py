@@ -15,6 +15,7 @@ import itertools
 import pathlib
 import re
 import sys
+import typing
 
 from answers import UTILITIES, rows_of
 
@@ -30,6 +31,25 @@ TESTS = ["text_tests", "kernel_tests"]
 FAMILIES = ["Files and descriptors", "The tree", "Attributes", "Processes", "Audit"]
 LIMITS_FILE = "kern_model/src/limits.rt"
 STATUS_FILE = "crates/labsys/src/status.rt"
+HELP_FILE = "crates/lab_usage/src/commands.rt"
+
+
+class CommandHelp(typing.NamedTuple):
+    """A row of the table of commands: the names of its argument and of what it reads are None or empty where there is none."""
+    word: str
+    argument: typing.Optional[str]
+    read: str
+    about: str
+
+    @property
+    def usage(self):
+        """The word, and the name of its argument."""
+        return f"{self.word} {self.argument}" if self.argument else self.word
+
+    @property
+    def line(self):
+        """The whole line of the command."""
+        return f"labsys {self.usage}{' < ' * bool(self.read)}{self.read}"
 
 
 class Lacking(Exception):
@@ -131,13 +151,20 @@ def messages():
     return sorted([*complaints().values(), *lines])
 
 
+def table_of_commands():
+    """The commands, as the table of their help has them."""
+    row = re.compile(r'word: "(\w+)",\s+argument: (?:Some\((\w+)\)|None),\s+input: (?:Some\("(\w+)"\)|None),\s+about: "([^"]+)"')
+    names = dict(re.findall(r'const (\w+): ArgumentHelp = ArgumentHelp \{\s+name: "(\w+)"', text_of(HELP_FILE)))
+    return [CommandHelp(word, names.get(argument), read, about) for word, argument, read, about in row.findall(text_of(HELP_FILE))]
+
+
 def usages():
     """The commands with the names of their arguments."""
-    return re.findall(r'usage: "labsys ([a-z]+(?: [A-Z]+)?)', text_of("crates/lab_usage/src/mistakes.rt"))
+    return [command.usage for command in table_of_commands()]
 
 
 def commands():
-    return [usage.split()[0] for usage in usages()]
+    return [command.word for command in table_of_commands()]
 
 
 def crates():
@@ -326,15 +353,6 @@ def rows_with_words(page, section):
     return [CODE.findall(cells[0])[0] for cells in rows_of(section_with(page, section)) if CODE.findall(cells[0])]
 
 
-def commands_of_readme():
-    return re.findall(r"^\| `\./labsys ([a-z]+(?: [A-Z]+)?)` \|", text_of("README.md"), re.M)
-
-
-def commands_of_manual():
-    lines = between("docs/labsys.1", ".Sh SYNOPSIS", ".Sh DESCRIPTION")
-    return [re.sub(r" Ar ", " ", use) for use in re.findall(r"^\.Cm (.*)$", lines, re.M)]
-
-
 def items_of_manual():
     lines = between("docs/labsys.1", ".Sh DESCRIPTION", ".Sh INPUT")
     return [re.sub(r" Ar ", " ", use) for use in re.findall(r"^\.It Cm (.*)$", lines, re.M)]
@@ -382,10 +400,6 @@ def syntax_words(group):
     """The words that the syntax of Vim has in a group."""
     lines = re.findall(rf"^syntax keyword {group} (.*)$", text_of("editor/labsys.vim"), re.M)
     return sorted(word for line in lines for word in line.split() if word != "contained")
-
-
-def completed():
-    return between("completion/labsys.bash", 'compgen -W "', '"').split()
 
 
 def parts_of_headline():
@@ -448,12 +462,9 @@ WORDS = [
     ("docs/labsys.1", "exit statuses", statuses_of_manual, statuses_of_script),
     ("docs/labsys.1", "messages", messages_of_manual, messages),
     ("docs/help.txt", "exit statuses", statuses_of_help, statuses),
-    ("README.md", "commands", commands_of_readme, usages),
     ("docs/FORMATS.md", "commands", lambda: rows_with_words("docs/FORMATS.md", "Commands"), usages),
-    ("docs/labsys.1", "commands of the synopsis", commands_of_manual, usages),
     ("docs/labsys.1", "commands", items_of_manual, usages),
     ("docs/help.txt", "commands", commands_of_help, usages),
-    ("completion/labsys.bash", "commands", completed, lambda: [*commands(), "--help", "--version"]),
     ("editor/labsys.vim", "calls", lambda: syntax_words("labsysCall"), in_order(calls)),
     ("editor/labsys.vim", "utilities", lambda: syntax_words("labsysUtility"), in_order(tools)),
     ("editor/labsys.vim", "capabilities", lambda: syntax_words("labsysCapability"), in_order(capabilities)),
