@@ -167,6 +167,16 @@ def commands():
     return [command.word for command in table_of_commands()]
 
 
+def words_with_arguments():
+    """The words of the commands, with `Some` where an argument stands after them, and `None` where none does."""
+    return [f"{command.word} {'Some' if command.argument else 'None'}" for command in table_of_commands()]
+
+
+def words_of_program():
+    """The same of the words that the program reads."""
+    return [" ".join(pair) for pair in re.findall(r'\("(\w+)", (Some|None)', text_of("crates/labsys/src/command.rt"))]
+
+
 def crates():
     return re.findall(r"^(\w+):", text_of("crates.txt"), re.M)
 
@@ -462,6 +472,7 @@ WORDS = [
     ("docs/labsys.1", "exit statuses", statuses_of_manual, statuses_of_script),
     ("docs/labsys.1", "messages", messages_of_manual, messages),
     ("docs/help.txt", "exit statuses", statuses_of_help, statuses),
+    ("crates/labsys/src/command.rt", "words of commands", words_of_program, words_with_arguments),
     ("docs/FORMATS.md", "commands", lambda: rows_with_words("docs/FORMATS.md", "Commands"), usages),
     ("docs/labsys.1", "commands", items_of_manual, usages),
     ("docs/help.txt", "commands", commands_of_help, usages),

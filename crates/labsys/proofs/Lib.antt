@@ -1,4 +1,3 @@
-pub mod CommandLemmas
 pub mod GeneratedLemmas
 pub mod ChosenLemmas
 pub mod ProgramInputs

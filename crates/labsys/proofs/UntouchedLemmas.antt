@@ -1,17 +1,17 @@
 -- The clauses of the top call where memory runs out before a command is known.
 use Rattle.std.proofs.Common.{◌≡◌, ℕ, List, [], refl, arith}
 use Rattle.std.proofs.KnownBytes.{Consumes-nil}
-use Rattle.std.specs.Prelude.{true, IfSome, Option, None, Some, Err}
+use Rattle.std.specs.Prelude.{Bool, true, false, IfSome, Option, None, Some, Err}
 use Rattle.io_ends.specs.Ends.{sink_view}
 use Rattle.lab_engine.specs.declared.ending.Fault.TheVariants.{NoMemory}
 use Rattle.lab_engine.specs.Order.{IsInOrder}
 use Rattle.lab_engine.specs.Playing.{Ends, ends}
 use Rattle.lab_engine.proofs.Sending.{stops_at_once}
 use Rattle.labsys.specs.declared.command.Command.{Command}
-use Rattle.labsys.specs.declared.command.Command.TheVariants.{Play, Sched, Check, Gen, Drill, View, Upgrade, Least, Select, Lineage}
+use Rattle.labsys.specs.declared.command.Command.TheVariants.{Play, Sched}
 use Rattle.labsys.specs.declared.status.Status.TheVariants as status
 use Rattle.labsys.specs.Clauses.{WhereReported, reports, reports_used}
-use Rattle.labsys.specs.Commands.{LeavesAlone, due, reads_source, writes_trail}
+use Rattle.labsys.specs.Commands.{LeavesAlone, Unless, due, reads_source, writes_trail}
 use Rattle.labsys.specs.Promises.{Plays}
 use Rattle.labsys.specs.ScheduleClauses.{Schedules}
 use Rattle.labsys.specs.Playing.{CommandDid}
@@ -24,19 +24,15 @@ pub where_named : (o : Option Command) (P : Command → Type 0) → ((c : Comman
 where_named None P f = tt
 where_named (Some c) P f = f c
 
+-- what holds is so unless a test is
+unless : (b : Bool) (P : Type 0) → P → Unless b P
+unless true P p = tt
+unless false P p = p
+
 -- all ends are as they were
 pub untouched_alone : (o : Option Command) (source out trail : Type 0) → source → out → trail → LeavesAlone o source out trail
 untouched_alone None source out trail s o t = (s, o, t)
-untouched_alone (Some Play) source out trail s o t = tt
-untouched_alone (Some Sched) source out trail s o t = tt
-untouched_alone (Some Check) source out trail s o t = t
-untouched_alone (Some (Gen n)) source out trail s o t = (s, t)
-untouched_alone (Some (Drill n)) source out trail s o t = (s, t)
-untouched_alone (Some (View word)) source out trail s o t = t
-untouched_alone (Some Upgrade) source out trail s o t = t
-untouched_alone (Some Least) source out trail s o t = t
-untouched_alone (Some (Select word)) source out trail s o t = t
-untouched_alone (Some Lineage) source out trail s o t = t
+untouched_alone (Some c) source out trail s o t = (unless (reads_source c) source s, unless (writes_trail c) trail t)
 
 -- a command for which memory runs out at once does nothing
 did_nothing : (c : Command) (l : Option (List ℕ)) (e : Ends) → CommandDid c (Err NoMemory) l l e e

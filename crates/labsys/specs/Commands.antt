@@ -3,12 +3,12 @@ use Rattle.std.specs.Prelude.{ℕ, ◌≤◌, Bool, true, false, cond, List, [],
 use Rattle.std.specs.Option.{option_map}
 use Rattle.std.specs.declared.string.String.{String}
 use Rattle.std.specs.declared.alloc.Global.{Global}
-use Rattle.fs_path.specs.Options.{keep_if}
+use Rattle.fs_path.specs.Options.{then}
 use Rattle.fs_path.specs.Values.{numeral}
 use Rattle.gen_world.specs.declared.generator.TheConstants.{MAX_LINES}
 use Rattle.gen_world.specs.Text.{gen_text}
 use Rattle.lab_text.specs.Names.{same_bytes}
-use Rattle.lab_usage.specs.Words.{is_argument}
+use Rattle.lab_usage.specs.Words.{Given, given_words}
 use Rattle.aud_red.specs.declared.trail.Trail.{Trail}
 use Rattle.labsys.specs.declared.command.Command.{Command}
 use Rattle.labsys.specs.declared.command.Command.TheVariants.{Play, Sched, Check, Gen, Drill, View, Upgrade, Least, Select, Lineage}
@@ -37,45 +37,58 @@ use Rattle.lab_engine.specs.UpgradeInput.{UpgradeInput, upgrade_of}
 abbrev pub lines_of : List ℕ → Option ℕ
 lines_of word = numeral 10 6 1 MAX_LINES word
 
--- the command that a word names without an argument: `check`, `upgrade`, `least` or `lineage`
-abbrev pub command_alone : List ℕ → Option Command
-command_alone word =
-    cond (same_bytes word (codes "check")) (Some Check)
-    (cond (same_bytes word (codes "upgrade")) (Some Upgrade)
-    (cond (same_bytes word (codes "least")) (Some Least) (keep_if (same_bytes word (codes "lineage")) Lineage)))
+-- what stands after the word of a command, and gives the command where it is as it has to be
+abbrev pub After : Type 0
+After = Option (List ℕ) → Option Command
 
--- the command that a word names with how many lines are asked for: `gen N` or `drill N`
-abbrev pub command_of_lines : List ℕ → List ℕ → Option Command
-command_of_lines word argument =
-    cond (same_bytes word (codes "gen")) (option_map Gen (lines_of argument))
-    (cond (same_bytes word (codes "drill")) (option_map Drill (lines_of argument)) None)
+-- nothing
+abbrev pub nothing : Command → After
+nothing command None = Some command
+nothing command (Some argument) = None
 
--- the command that a word names with an argument: `play FILE`, `sched FILE`, `view LABEL`, `select SPEC`, or one with how many lines are asked for
-abbrev pub command_with : List ℕ → List ℕ → Option Command
-command_with word argument =
-    cond (same_bytes word (codes "play")) (keep_if (is_argument argument) Play)
-    (cond (same_bytes word (codes "sched")) (keep_if (is_argument argument) Sched)
-    (cond (same_bytes word (codes "view")) (keep_if (is_argument argument) (View argument))
-    (cond (same_bytes word (codes "select")) (keep_if (is_argument argument) (Select argument)) (command_of_lines word argument))))
+-- a word that is part of the command, as LABEL and SPEC
+abbrev pub a_word : (List ℕ → Command) → After
+a_word command None = None
+a_word command (Some word) = Some (command word)
+
+-- FILE, which is no part of the command
+abbrev pub a_file : Command → After
+a_file command = a_word (λ file. command)
+
+-- N, how many lines are asked for
+abbrev pub a_number : (ℕ → Command) → After
+a_number command None = None
+a_number command (Some word) = option_map command (lines_of word)
+
+-- the commands: the word of each, and what stands after it
+abbrev pub commands : List (List ℕ × After)
+commands =
+    (codes "play", a_file Play)
+    ∷ (codes "sched", a_file Sched)
+    ∷ (codes "view", a_word View)
+    ∷ (codes "check", nothing Check)
+    ∷ (codes "gen", a_number Gen)
+    ∷ (codes "drill", a_number Drill)
+    ∷ (codes "upgrade", nothing Upgrade)
+    ∷ (codes "least", nothing Least)
+    ∷ (codes "select", a_word Select)
+    ∷ (codes "lineage", nothing Lineage)
+    ∷ []
+
+-- the command that a word and the argument after it name in a table
+abbrev pub command_in : List (List ℕ × After) → Given → Option Command
+command_in [] given = None
+command_in (row ∷ rows) given = cond (same_bytes given.command row.0) (row.1 given.argument) (command_in rows given)
 
 -- the command that the words name, if they name one
 abbrev pub command_of : List (String Global) → Option Command
-command_of (word ∷ []) = command_alone (string_bytes word)
-command_of (word ∷ argument ∷ []) = command_with (string_bytes word) (string_bytes argument)
-command_of words = None
+command_of words = then (given_words words) (command_in commands)
 
 -- so many lines can be generated
 abbrev pub FitsCommand : Command → Type 0
-FitsCommand Play = Unit {0}
-FitsCommand Sched = Unit {0}
-FitsCommand Check = Unit {0}
 FitsCommand (Gen n) = (1 ≤ n) × (n ≤ MAX_LINES)
 FitsCommand (Drill n) = (1 ≤ n) × (n ≤ MAX_LINES)
-FitsCommand (View word) = Unit {0}
-FitsCommand Upgrade = Unit {0}
-FitsCommand Least = Unit {0}
-FitsCommand (Select word) = Unit {0}
-FitsCommand Lineage = Unit {0}
+FitsCommand command = Unit {0}
 
 -- ---- what is due
 
@@ -140,40 +153,22 @@ due Lineage text = due_of_lineage (trail_in text)
 
 -- whether a command reads the source
 abbrev pub reads_source : Command → Bool
-reads_source Play = true
-reads_source Sched = true
-reads_source Check = true
 reads_source (Gen n) = false
 reads_source (Drill n) = false
-reads_source (View word) = true
-reads_source Upgrade = true
-reads_source Least = true
-reads_source (Select word) = true
-reads_source Lineage = true
+reads_source command = true
 
 -- whether a command writes to the trail
 abbrev pub writes_trail : Command → Bool
 writes_trail Play = true
 writes_trail Sched = true
-writes_trail Check = false
-writes_trail (Gen n) = false
-writes_trail (Drill n) = false
-writes_trail (View word) = false
-writes_trail Upgrade = false
-writes_trail Least = false
-writes_trail (Select word) = false
-writes_trail Lineage = false
+writes_trail command = false
 
--- which ends a command leaves as they were: without a command all of them
+-- this holds unless the test does
+abbrev pub Unless : Bool → Type 0 → Type 0
+Unless true P = Unit {0}
+Unless false P = P
+
+-- which ends a command leaves as they were: those that it does not use, and without a command all of them
 abbrev pub LeavesAlone : Option Command → (source out trail : Type 0) → Type 0
 LeavesAlone None source out trail = source × out × trail
-LeavesAlone (Some Play) source out trail = Unit {0}
-LeavesAlone (Some Sched) source out trail = Unit {0}
-LeavesAlone (Some Check) source out trail = trail
-LeavesAlone (Some (Gen n)) source out trail = source × trail
-LeavesAlone (Some (Drill n)) source out trail = source × trail
-LeavesAlone (Some (View word)) source out trail = trail
-LeavesAlone (Some Upgrade) source out trail = trail
-LeavesAlone (Some Least) source out trail = trail
-LeavesAlone (Some (Select word)) source out trail = trail
-LeavesAlone (Some Lineage) source out trail = trail
+LeavesAlone (Some command) source out trail = Unless (reads_source command) source × Unless (writes_trail command) trail

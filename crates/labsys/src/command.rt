@@ -1,11 +1,10 @@
 // The commands of the program.
-ghost use Rattle.std.specs.Prelude.{◌≡◌, true, IfOk, IfSome};
-ghost use Rattle.lab_usage.specs.Words.{is_argument};
-ghost use Rattle.labsys.specs.Commands.{FitsCommand, command_alone, command_of, command_of_lines, command_with, lines_of};
+ghost use Rattle.std.specs.Prelude.{◌≡◌, ◌≤◌, IfOk, IfSome};
+ghost use Rattle.labsys.specs.Commands.{FitsCommand, command_in, command_of, commands, lines_of, reads_source, writes_trail};
 
 use fs_path::numeral;
 use gen_world::MAX_LINES;
-use lab_usage::words_given;
+use lab_usage::{GivenWords, words_given};
 use std::alloc::{AllocError, Global};
 use std::marker::Model;
 
@@ -42,11 +41,11 @@ impl<'a> Argument<'a> {
 /// A command.
 #[derive(Drop)]
 pub enum Command<'a> {
-    /// `play FILE` plays the world and the script that the source holds.
+    /// `play FILE` plays the world and the script that the source holds: the records of each call go to the trail, and then its reply to the output.
     Play,
-    /// `sched FILE` plays the world and the programs that the source holds, in turns by label.
+    /// `sched FILE` plays the world and the programs that the source holds, in turns by label, and writes the same of each call.
     Sched,
-    /// `check` reads the world and the script that the source holds, and plays nothing.
+    /// `check` reads the world and the script that the source holds, plays nothing, and writes how many objects, processes and calls there are.
     Check,
     /// `gen N` writes the generated input of N lines.
     Gen(u32),
@@ -64,72 +63,58 @@ pub enum Command<'a> {
     Lineage,
 }
 
+impl<'a> Command<'a> {
+    /// Whether it reads the source.
+    pub fn reads_source(&self) -> bool
+        ensures { result ≡ reads_source self.now }
+    {
+        !matches!(self, Command::Gen(_) | Command::Drill(_))
+    }
+
+    /// Whether it writes to the trail.
+    pub fn writes_trail(&self) -> bool
+        ensures { result ≡ writes_trail self.now }
+    {
+        matches!(self, Command::Play | Command::Sched)
+    }
+}
+
 // How many lines a word asks for: 1 to 6 digits, of a value from 1 to 100,000.
 fn lines_of(word: &[u8]) -> Option<u32>
-    ensures { result ≡ lines_of word.now }
+    ensures lines { result ≡ lines_of word.now }
+    ensures fits { IfSome result (λ n. (1 ≤ n) × (n ≤ MAX_LINES)) }
 {
     let lines = numeral(word, 10, 6, 1, u64::from(MAX_LINES))?;
     Some(lines as u32)
 }
 
-// The command that a word names without an argument.
-fn command_alone(word: &[u8]) -> Option<Command<'static>>
-    ensures { result ≡ command_alone word.now }
+// The command that a word and the argument after it name: the table of the commands.
+fn command_named<'a>(given: &GivenWords<'a>) -> Option<Command<'a>>
+    ensures command { result ≡ command_in commands given.now }
+    ensures fits { IfSome result FitsCommand }
 {
-    if word == b"check".as_slice() {
-        return Some(Command::Check);
-    }
-    if word == b"upgrade".as_slice() {
-        return Some(Command::Upgrade);
-    }
-    if word == b"least".as_slice() {
-        return Some(Command::Least);
-    }
-    (word == b"lineage".as_slice()).then_some(Command::Lineage)
-}
-
-// The command that a word names with how many lines are asked for.
-fn command_of_lines(word: &[u8], argument: &[u8]) -> Option<Command<'static>>
-    ensures { result ≡ command_of_lines word.now argument.now }
-{
-    match word {
-        b"gen" => Some(Command::Gen(lines_of(argument)?)),
-        b"drill" => Some(Command::Drill(lines_of(argument)?)),
+    match (given.command(), given.argument()) {
+        ("play", Some(_)) => Some(Command::Play),
+        ("sched", Some(_)) => Some(Command::Sched),
+        ("view", Some(label)) => Some(Command::View(Argument::new(label.as_bytes()))),
+        ("check", None) => Some(Command::Check),
+        ("gen", Some(number)) => Some(Command::Gen(lines_of(number.as_bytes())?)),
+        ("drill", Some(number)) => Some(Command::Drill(lines_of(number.as_bytes())?)),
+        ("upgrade", None) => Some(Command::Upgrade),
+        ("least", None) => Some(Command::Least),
+        ("select", Some(spec)) => Some(Command::Select(Argument::new(spec.as_bytes()))),
+        ("lineage", None) => Some(Command::Lineage),
         _ => None,
     }
 }
 
-// The command that a word names with an argument.
-fn command_with<'a>(word: &[u8], argument: &'a [u8]) -> Option<Command<'a>>
-    requires { is_argument argument.now ≡ true }
-    ensures { result ≡ command_with word.now argument.now }
-{
-    if word == b"play".as_slice() {
-        return Some(Command::Play);
-    }
-    if word == b"sched".as_slice() {
-        return Some(Command::Sched);
-    }
-    if word == b"view".as_slice() {
-        return Some(Command::View(Argument::new(argument)));
-    }
-    if word == b"select".as_slice() {
-        return Some(Command::Select(Argument::new(argument)));
-    }
-    command_of_lines(word, argument)
-}
-
-/// The command that the arguments name. The file of `play` or `sched` is not opened.
+/// The command that the arguments name. FILE is not opened.
 pub fn command_of(alloc: Global, words: &[String]) -> Result<Option<Command<'_>>, AllocError>
     ensures command { IfOk result (λ command. command ≡ command_of words.now) }
     ensures fits { IfOk result (λ command. IfSome command FitsCommand) }
 {
-    let Some(given) = words_given(alloc, words)? else {
-        return Ok(None);
-    };
-    let word = given.command().as_bytes();
-    Ok(match given.argument() {
-        Some(argument) => command_with(word, argument.as_bytes()),
-        None => command_alone(word),
-    })
+    match words_given(alloc, words)? {
+        Some(given) => Ok(command_named(&given)),
+        None => Ok(None),
+    }
 }

@@ -19,6 +19,7 @@ mod trails;
 mod upgrading;
 mod viewing;
 
+use command::command_of;
 pub use command::{Argument, Command};
 use descriptors::{fill_closed, standard_file};
 use io_ends::{FileSink, FileSource};
@@ -102,42 +103,33 @@ fn explain_fault(rt: &HostRuntime, end: &str, cause: Option<io::Error>) {
 }
 
 // Says that standard input is read, where a terminal waits for it to be typed.
-fn announce_input(rt: &HostRuntime, words: &[String]) {
-    let reads = match words {
-        [word] => matches!(word.as_str(), "check" | "upgrade" | "least" | "lineage"),
-        [word, _] => matches!(word.as_str(), "play" | "sched" | "view" | "select"),
-        _ => false,
-    };
-    if reads && rt.stdin().is_terminal() {
+fn announce_input(rt: &HostRuntime, command: &Command<'_>) {
+    if command.reads_source() && rt.stdin().is_terminal() {
         print_error(rt, "labsys: reading standard input");
     }
 }
 
-// FILE of `play` or `sched` and the end whose file it is, where it is one.
-fn file_of_end<'a>(rt: &HostRuntime, words: &'a [String]) -> Option<(&'a str, &'static str)> {
-    match words {
-        [word, name] if matches!(word.as_str(), "play" | "sched") => {
-            let end = standard_file(rt, name.as_str())?;
-            Some((name.as_str(), end))
-        }
-        _ => None,
+// The end whose file FILE is, where the command writes the trail to FILE and it is that of an end.
+fn end_of_file(rt: &HostRuntime, command: &Command<'_>, name: &str) -> Option<&'static str> {
+    if command.writes_trail() {
+        standard_file(rt, name)
+    } else {
+        None
     }
 }
 
 // Runs the command that the words name, and prints what its output does not show.
-fn run_words(rt: &HostRuntime, words: &[String]) -> io::Result<Status> {
-    let name = trail_name(rt.alloc(), words)?;
-    announce_input(rt, words);
+fn run_words(rt: &HostRuntime, words: &[String], name: &str) -> io::Result<Status> {
     let mut source = FileSource::new(rt.reader());
     let mut out = FileSink::stdout(rt.clone()?);
-    let mut trail = FileSink::named(rt.clone()?, name.clone()?);
+    let mut trail = FileSink::named(rt.clone()?, String::from_str(rt.alloc(), name)?);
     let status = run(rt.alloc(), words, &mut source, &mut out, &mut trail);
     complain(rt, status);
     match status {
         Status::Usage => explain_usage(rt, words),
         Status::ReadFault => explain_fault(rt, "standard input", source.error()),
         Status::WriteFault => explain_fault(rt, "standard output", out.error()),
-        Status::TrailFault => explain_fault(rt, &name, trail.error()),
+        Status::TrailFault => explain_fault(rt, name, trail.error()),
         _ => {}
     }
     Ok(status)
@@ -150,13 +142,17 @@ fn start(rt: &HostRuntime) -> io::Result<Status> {
         complain(rt, status);
         return Ok(status);
     }
-    if let Some((name, end)) = file_of_end(rt, &words) {
-        let _ = eprintln!(rt;
-            "labsys: {name} is the file of {end}, and the trail would overwrite it"
-        );
-        return Ok(Status::Usage);
+    let name = trail_name(rt.alloc(), &words)?;
+    if let Some(command) = command_of(rt.alloc(), &words)? {
+        if let Some(end) = end_of_file(rt, &command, &name) {
+            let _ = eprintln!(rt;
+                "labsys: {name} is the file of {end}, and the trail would overwrite it"
+            );
+            return Ok(Status::Usage);
+        }
+        announce_input(rt, &command);
     }
-    run_words(rt, &words)
+    run_words(rt, &words, &name)
 }
 
 // The status where the arguments cannot be read. One that is not UTF-8 is no command.

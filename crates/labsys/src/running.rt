@@ -31,15 +31,7 @@ fn status_of(played: Result<InputEnd, Fault>) -> Status
     }
 }
 
-/// Runs the command that the words name. `play FILE` plays the world and the script that the source holds: it writes
-/// the records of each call to the trail, and then the reply to the output. The file is not opened: `trail` stands
-/// for it. `sched FILE` plays the world and the programs that the source holds, in turns by label, and writes the same of
-/// each call. `view LABEL` plays the input too, and writes what the label sees of it to the output. `check` reads the same
-/// input and plays nothing: it writes how many objects, processes and calls there are, or the line that refuses the
-/// input. `upgrade` reads an input of the old format, and writes it in the format of today. `least` plays the input, and writes its
-/// world without the capabilities that its script did not need. `gen N` writes the generated input of N lines to the output, and `drill N` plays that input and writes one line with how its calls were answered. `select SPEC`
-/// reads a trail, and writes the records that SPEC picks as lines of JSON. `lineage` reads a trail, and writes whether each of
-/// its records may come after those before it.
+/// Runs the command that the words name: the variants of `Command` say what each does. FILE is not opened: `trail` stands for it.
 pub fn run<S: Source, K: Sink, T: Sink>(
     alloc: Global,
     words: &[String],
@@ -49,7 +41,7 @@ pub fn run<S: Source, K: Sink, T: Sink>(
 ) -> Status
     // With any status but 6, status 1 comes exactly where the words name no command.
     ensures words { result ≢ Status.NoMemory → ((result ≡ Status.Usage) ↔ (command_of words.now ≡ None)) }
-    // Without a command nothing is read or written. `gen` and `drill` read nothing, and only `play` and `sched` write to the trail.
+    // Without a command nothing is read or written. A command leaves the source and the trail alone, where it does not use them.
     ensures left_alone { LeavesAlone (command_of words.now) (source.new ≡ source.old) (out.new ≡ out.old) (trail.new ≡ trail.old) }
     // The first fault ends the run: one is counted with status 3, 4 or 5, by the end that it reports, and none with another.
     ensures counts { counts (S.view source.new).faults (K.view out.new).faults (T.view trail.new).faults ≡ counts_after result (counts (S.view source.old).faults (K.view out.old).faults (T.view trail.old).faults) }
@@ -63,7 +55,7 @@ pub fn run<S: Source, K: Sink, T: Sink>(
     // With status 0, 2 or 7 they have received all of it.
     ensures whole { IfSome (command_of words.now) (λ command. OnWhole result (WhereReported (reports_used command (reports_of_ends (S.view source.old) (K.view out.old) (T.view trail.old))) (reports_used command (reports_of_ends (S.view source.new) (K.view out.new) (T.view trail.new)))
         (λ text o t. (o ≡ out_of (due command text).order) × (t ≡ trail_of (due command text).order)))) }
-    // Which of these three it is depends on the source's bytes alone, and of `gen` and `drill` not on them.
+    // Which of these three it is depends on the source's bytes alone, and of a command that does not read the source not on them.
     ensures ending { IfSome (command_of words.now) (λ command. OnWhole result ((text : List ℕ) → if_used (reads_source command) (S.view source.old).left ≡ Some text → result ≡ (due command text).status)) }
 
     // What `play` promises besides: records before replies, isolation, the capability sets at the end, and a trail of which `lineage` says `yes`.

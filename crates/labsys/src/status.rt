@@ -5,7 +5,7 @@ ghost use Rattle.labsys.specs.Exit.{is_reported};
 /// How a run ended. The number is the exit status of the program.
 #[derive(Clone, Copy, Debug, PartialEq, Eq)]
 pub enum Status {
-    /// The input was accepted to its end, and all that is due was written. `gen` and `drill` have no input.
+    /// The input was accepted to its end, where the command reads one, and all that is due was written.
     Done,
     /// The arguments name no command.
     Usage,
