@@ -26,3 +26,4 @@ pub mod ScheduleAnswers
 pub mod LineageAnswers
 pub mod NarrowedLemmas
 pub mod UntouchedLemmas
+pub mod RunLemmas

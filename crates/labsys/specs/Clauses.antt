@@ -3,7 +3,6 @@ use Rattle.std.specs.Prelude.{◌≡◌, ℕ, ◌+◌, ◌≤◌, ◌<◌, Bool,
 use Rattle.std.specs.List.{flat_map}
 use Rattle.std.specs.Io.KnownBytes.{Consumes}
 use Rattle.std.specs.FinMap as finite
-use Rattle.io_ends.specs.Ends.{SinkView, SourceView}
 use Rattle.lab_lattice.specs.Label.{Label}
 use Rattle.aud_record.specs.Written.{rec_text, header_text}
 use Rattle.kern_model.specs.declared.records.Rec.{Rec}
@@ -35,10 +34,6 @@ pub record Reports : Type 0 where
 -- the three together
 abbrev pub reports : Option (List ℕ) → Option (List ℕ) → Option (List ℕ) → Reports
 reports left out trail = record { left = left; out = out; trail = trail }
-
--- what the three ends report
-abbrev pub reports_of_ends : SourceView → SinkView → SinkView → Reports
-reports_of_ends source out trail = reports source.left out.held trail.held
 
 -- what an end reports, where one that is not used counts as one that holds nothing
 abbrev pub if_used : Bool → Option (List ℕ) → Option (List ℕ)

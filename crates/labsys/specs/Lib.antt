@@ -15,4 +15,5 @@ pub mod Clauses
 pub mod Lineage
 pub mod Promises
 pub mod ScheduleClauses
+pub mod Running
 pub mod Exit
