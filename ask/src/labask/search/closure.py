@@ -1,15 +1,16 @@
 """All facts that can come to be where none is lost, and all steps by which."""
 import itertools
 from collections import defaultdict
-from typing import Any, Callable, DefaultDict, Dict, Iterator, List, Optional, Set, Tuple
+from typing import Any, Callable, DefaultDict, Dict, Iterable, Iterator, List, Mapping, Optional, Set, Tuple
 
 from labask.kernel import rules
 from labask.kernel.state import NO_CAPS, Cap, Caps, Kind, Label, State, Thing
 from labask.search.facts import (ACTS, AS, AT, CAN, CAPS, CWD, DONE, ENTRY, EXECUTE, FREE, GOAL, GOT, GROUP, HEARD, HOLDS, IN, LABEL,
                                  MANY, MARK, MODE, ON_PATH, OPENED, OWN, OWNER, RAN, READ, SEARCH,
-                                 SEE, TAINT, TRUE, UMASK, WRITE, Credentials, Fact, Right, Step,
+                                 SEE, SOME, TAINT, TRUE, UMASK, WRITE, Credentials, Fact, Right, Step,
                                  Values, View, one)
-from labask.search.problem import Cast, Made, Problem
+from labask.search.problem import Cast, Grain, Made, Problem
+from labask.search.wanted import Wanted
 
 ATTRIBUTES = (LABEL, OWNER, GROUP, MODE, CAPS)
 OPEN_MODE = 0o777
@@ -38,20 +39,23 @@ def is_less(caps: Caps, other: Caps) -> bool:
     return not any(one & ~two for one, two in zip(caps, other))
 
 
-NOTHING = Step(0, (), ())
-
-
 class Closure:
     """The closure of a problem: `facts` that can be, `steps` by which, and whether it was collected to its end.
 
-    With a bound it has the steps that a script of so many calls can have. Without one a family counts as one who has all that any of
-    it can have: what is no fact then, can't be. A coarse one has the facts and steps of objects that are alike as those of one object.
+    With a bound it has the steps that a script of so many calls can have, and those alone that are wanted where that is said.
+    Without one it has facts and no steps: what is no fact then, can't be. Where the grain is not fine, or there is no bound, it is a
+    rough one: who acts has all that any of a family gets by so many calls.
     """
 
-    def __init__(self, problem: Problem, bound: Optional[int] = None, coarse: bool = False):
+    def __init__(self, problem: Problem, bound: Optional[int] = None, grain: Grain = Grain.FINE, wanted: Optional[Wanted] = None):
         self.problem, self.state, self.whole = problem, problem.state, True
         self.merged, self.bound, self.rounds = bound is None, bound, 0
-        self.cast = Cast(problem, coarse)
+        self.rough = self.merged or grain is not Grain.FINE
+        self.wanted = wanted
+        self.first: Set[Fact] = set()
+        self.reserved: Dict[int, int] = {}
+        self.exact_views: Set[int] = set()
+        self.cast = Cast(problem, grain)
         self.facts: Set[Fact] = set()
         self.steps: Dict[Any, Step] = {}
         self.values: DefaultDict[Tuple[str, int], List[Any]] = defaultdict(list)
@@ -85,7 +89,8 @@ class Closure:
         users = {each.owner for each in things} | {each.ids.ruid for each in processes}
         groups = {each.group for each in things} | {group for each in processes for group in (each.ids.rgid, *each.ids.groups)}
         labels = {each.label for each in things} | {each.label for each in processes} | {self.state.top}
-        return sorted(users), sorted(groups), sorted(labels)
+        also = self.problem.choices
+        return sorted(users | also.users), sorted(groups | also.groups), sorted(labels | also.labels)
 
     # ---- collecting
 
@@ -93,6 +98,7 @@ class Closure:
         """Adds the facts of the first state."""
         for fact in self.first_facts(self.state):
             self.add(fact)
+        self.first |= self.facts
         return self
 
     @property
@@ -120,12 +126,40 @@ class Closure:
                 if over():
                     return False
                 pending += self.collect_of(family, one, focus, family in renew, seen)
+        self.settle()
         for fact in pending:
             self.add(fact)
         return True
 
-    def due(self, family: int, what: str) -> bool:
-        """Whether so many calls are left after a call of the present round as have to follow it at least."""
+    def version(self, family: int, old: int, new: Credentials) -> int:
+        """The number of the first credentials of a family, from some on, that have all that these have; the next ones where none have."""
+        versions = self.acting[family]
+        for number in versions[versions.index(old):]:
+            if self.credentials[number].joined(new) == self.credentials[number]:
+                return number
+        if family not in self.reserved:
+            self.reserved[family] = len(self.credentials)
+            self.credentials.append(self.credentials[versions[-1]])
+            self.view_of.append(-1)
+        number = self.reserved[family]
+        self.credentials[number] = self.credentials[number].joined(new)
+        return number
+
+    def settle(self) -> None:
+        """Gives the credentials that families get in this round their views."""
+        for number in self.reserved.values():
+            self.view_of[number] = len(self.views)
+            self.views.append(self.credentials[number].view)
+        self.reserved = {}
+
+    def due(self, family: int, what: str, *items: int) -> bool:
+        """Whether such a call is wanted, and calls are left after it."""
+        if self.wanted is not None and not self.wanted.has(self.cast, family, what, items):
+            return False
+        return self.has_left(what, family)
+
+    def has_left(self, what: str, family: int) -> bool:
+        """Whether so many calls are left after such a call of the present round as have to follow it at least."""
         if self.bound is None:
             return True
         goal = self.problem.process
@@ -141,12 +175,21 @@ class Closure:
         actor = Actor(self, family, one, entered, None if whole else focus)
         found: List[Fact] = []
         for step in itertools.chain(actor.own_steps(), actor.steps() if view not in seen else ()):
+            if self.merged:
+                found += [fact for fact in step.makes if not self.add_now(fact)]
+                continue
             key = (step.family, step.actor, step.words)
             if key not in self.steps:
-                self.steps[key] = step if not self.merged else NOTHING
+                self.steps[key] = step
                 found += step.makes
         seen.add(view)
         return found
+
+    def add_now(self, fact: Fact) -> bool:
+        """Adds a fact at once, if it is not one of credentials, which are settled at the end of a round."""
+        if fact[0] not in (ACTS, DONE):
+            self.add(fact)
+        return fact[0] not in (ACTS, DONE)
 
     def first_facts(self, state: State) -> Iterator[Fact]:
         """The facts of the first state."""
@@ -157,8 +200,8 @@ class Closure:
             if len(members) > 1:
                 yield (MANY, family)
         for item, numbers in enumerate(cast.items):
-            yield from self.thing_facts(item, state.things[numbers[0]])
             for number in numbers:
+                yield from self.thing_facts(item, state.things[number])
                 for directory, _ in state.spots.get(number, ()):
                     self.births[item].add(cast.item_of[directory])
                     self.inside_at_start[cast.item_of[directory]].add(item)
@@ -184,6 +227,7 @@ class Closure:
             view = credentials.view
             if view not in self.numbers:
                 self.numbers[view] = len(self.views)
+                self.exact_views.add(len(self.views))
                 self.views.append(view)
             self.view_of.append(self.numbers[view])
         return self.numbers[credentials]
@@ -197,13 +241,13 @@ class Closure:
         if kind in ATTRIBUTES:
             self.values[kind, fact[1]].append(fact[2])
             self.versions[fact[1]] += 1
-            self.changed.add(fact[1])
+            self.changed |= {fact[1], *self.children[fact[1]]}
         elif kind == ENTRY:
             self.children[fact[1]].append(fact[2])
             self.values[ENTRY, fact[2]].append(fact[1])
             self.changed |= {fact[1], fact[2]}
         elif kind in (TAINT, HEARD):
-            self.changed.add(fact[1])
+            self.changed |= {fact[1], *self.values[ENTRY, fact[1]]}
         else:
             self.add_other(fact)
 
@@ -252,7 +296,9 @@ class Closure:
         name = self.problem.names[count]
         if name not in self.names[directory]:
             self.names[directory].append(name)
-            self.add(self.entry_fact(self.state, directory, name))
+            for fact in self.entry_facts(directory, name):
+                self.first.add(fact)
+                self.add(fact)
             self.renew |= set(range(len(self.cast.families)))
         for item in list(self.at[directory, name]):
             self.add((ON_PATH, count + 1, item))
@@ -266,13 +312,13 @@ class Closure:
 
     def is_replaced(self, target: int) -> bool:
         """Whether an object can be replaced by one call; a directory with entries is moved away instead."""
-        return not any(self.state.names.get(number) for number in self.cast.items[target])
+        numbers = self.cast.items[target]
+        return not numbers or any(not self.state.names.get(number) for number in numbers)
 
-    def entry_fact(self, state: State, directory: int, name: bytes) -> Fact:
-        """What a name of the path TO leads to in a directory of the first state."""
-        numbers = self.cast.items[directory]
-        found = state.names.get(numbers[0], {}).get(name) if numbers else None
-        return (FREE, directory, name) if found is None else (AT, directory, name, self.cast.item_of[found])
+    def entry_facts(self, directory: int, name: bytes) -> Set[Fact]:
+        """What a name of the path TO leads to in directories of the first state."""
+        found = [self.state.names.get(number, {}).get(name) for number in self.cast.items[directory]] or [None]
+        return {(FREE, directory, name) if each is None else (AT, directory, name, self.cast.item_of[each]) for each in found}
 
     def reach_on_path(self, fact: Fact) -> None:
         """Goes on along the path TO from a new entry."""
@@ -300,16 +346,38 @@ class Closure:
     def ways(self, view: int, item: int, right: Right) -> Iterator[Tuple[Fact, ...]]:
         """The facts of an object by which there is a right to it."""
         one = self.views[view]
-        if right.bit:
+        if self.rough:
+            yield from self.rough_ways(one, item, right)
+        elif right.bit:
             for mode, owner, group in itertools.product(*(self.values[kind, item] for kind in (MODE, OWNER, GROUP))):
                 if one.allows(mode, owner, group, right.bit):
                     yield ((MODE, item, mode), (OWNER, item, owner), (GROUP, item, group))
         elif right is OWN:
-            yield from (((OWNER, item, user),) for user in one.users if user in self.values[OWNER, item])
+            yield from (((OWNER, item, user),) for user in self.values[OWNER, item] if user in one.users)
         else:
-            for label in self.values[LABEL, item]:
-                if label in one.labels or (right is SEE and one.dominates(label)):
-                    yield ((LABEL, item, label),)
+            yield from (((LABEL, item, label),) for label in self.values[LABEL, item] if one.fits(label, right is SEE))
+
+    def rough_ways(self, one: View, item: int, right: Right) -> Iterator[Tuple[Fact, ...]]:
+        """As above, where values that do the same count as one."""
+        if right is SEE or right is MARK:
+            yield from self.some(LABEL, item, lambda label: one.fits(label, right is SEE))
+            return
+        own = self.some(OWNER, item, lambda owner: owner in one.users)
+        if right is OWN:
+            yield from own
+            return
+        other = self.some(OWNER, item, lambda owner: bool(one.users - {owner}))
+        member = self.some(GROUP, item, lambda group: group in one.groups or group in one.others)
+        outside = self.some(GROUP, item, lambda group: group not in one.others and bool(one.groups - {group}))
+        for mode in self.values[MODE, item]:
+            for shift, needs in ((6, [own]), (3, [other, member]), (0, [other, outside])):
+                if mode >> shift & right.bit and all(needs):
+                    yield ((MODE, item, mode), *(fact for each in needs for (fact,) in each))
+
+    def some(self, kind: str, item: int, fits: Callable[[Any], bool]) -> List[Tuple[Fact, ...]]:
+        """The fact that an object has one of the values that fit; none where none does."""
+        found = frozenset(filter(fits, self.values[kind, item]))
+        return [((SOME, kind, item, found),)] if found else []
 
     def entered(self, family: int, view: int) -> Set[int]:
         """The directories that can be searched."""
@@ -351,13 +419,17 @@ class Closure:
             return True
         if not self.cast.items[item]:
             return self.is_made_moved(item)
-        return any(item not in self.at_start(view) for view in self.enterers[directory])
+        return any(not self.is_exact(view) or item not in self.at_start(view) for view in self.enterers[directory])
+
+    def is_exact(self, view: int) -> bool:
+        """Whether a view is that of one process, and not of several that count as one."""
+        return self.cast.grain is not Grain.CLASSES and view in self.exact_views
 
     def is_made_moved(self, item: int) -> bool:
         """Whether an object that a script makes is moved: a FIFO, a file with the bytes or more modes, a directory that holds the bytes."""
         if self.cast.kinds[item] is Kind.DIRECTORY:
             return any((TAINT, child) in self.facts for child in self.children[item])
-        return self.cast.kinds[item] is not Kind.FILE or (TAINT, item) in self.facts or len(self.values[MODE, item]) > 2
+        return self.cast.kinds[item] is not Kind.FILE or (TAINT, item) in self.facts or len(self.values[MODE, item]) > (1 if self.rough else 2)
 
     def cwds(self, family: int) -> List[Fact]:
         """The facts of the current directories of a family."""
@@ -372,14 +444,15 @@ class Closure:
         while len(done) < len(self.asked):
             for fact in [each for each in self.asked if each not in done]:
                 done.add(fact)
-                how = {CAN: self.can_steps, GOT: self.got_steps, IN: self.in_steps}[fact[0]](fact)
+                how = {CAN: self.can_steps, GOT: self.got_steps, IN: self.in_steps, SOME: self.some_steps}[fact[0]](fact)
                 for count, needs in enumerate(how):
                     self.steps[fact, count] = Step(0, needs, (fact,))
         self.derive_goal()
 
     def need(self, fact: Fact) -> Fact:
         """Notes a fact that follows without a call, and is needed."""
-        self.asked[fact] = None
+        if not self.merged:
+            self.asked[fact] = None
         return fact
 
     def entered_at_last(self, family: int, view: int) -> Set[int]:
@@ -391,7 +464,17 @@ class Closure:
     def can_steps(self, fact: Fact) -> Iterator[Tuple[Fact, ...]]:
         """How a right to an object follows."""
         _, view, item, right = fact
-        return self.ways(view, item, RIGHTS[right])
+        by_cap: List[Tuple[Fact, ...]] = [(TRUE,)] if self.views[view].effective & RIGHTS[right].cap else []
+        return itertools.chain(by_cap, (tuple(map(self.noted, way)) for way in self.ways(view, item, RIGHTS[right])))
+
+    def noted(self, fact: Fact) -> Fact:
+        """A fact, which is noted where it follows without a call."""
+        return self.need(fact) if fact[0] == SOME else fact
+
+    def some_steps(self, fact: Fact) -> List[Tuple[Fact, ...]]:
+        """How an object has one of some values."""
+        _, kind, item, values = fact
+        return [((kind, item, value),) for value in values]
 
     def got_steps(self, fact: Fact) -> List[Tuple[Fact, ...]]:
         """How a path to an object follows."""
@@ -416,7 +499,7 @@ class Closure:
     def conditions(self, view: int, item: int, *rights: Right) -> Iterator[Fact]:
         """The facts that rights to an object need."""
         for right in rights:
-            if not self.views[view].effective & right.cap:
+            if self.rough or not self.views[view].effective & right.cap:
                 yield self.need((CAN, view, item, right.name))
 
     def derive_goal(self) -> None:
@@ -491,9 +574,14 @@ class Actor:
         """Whether steps on an object are asked for."""
         return self.focus is None or item in self.focus
 
-    def due(self, what: str) -> bool:
-        """Whether calls are left after such a call."""
-        return self.all.due(self.family, what)
+    def is_near_focus(self, directory: int) -> bool:
+        """Whether steps on entries of a directory are asked for: on itself, or on what a name of the path TO leads to in it."""
+        there = (item for name in self.all.names[directory] for item in self.all.at[directory, name])
+        return self.in_focus(directory) or any(map(self.in_focus, there))
+
+    def due(self, what: str, *items: int) -> bool:
+        """Whether such a call is wanted, and calls are left after it."""
+        return self.all.due(self.family, what, *items)
 
     def named(self) -> List[int]:
         """The objects to which paths lead."""
@@ -504,8 +592,8 @@ class Actor:
         """The steps that other credentials of the same view do not have."""
         if self.focus is None and self.due("become"):
             yield from self.becoming()
-        for item in self.named() if self.due("become") else ():
-            if self.in_focus(item) and self.kinds[item] is Kind.FILE and self.can(item, SEE, EXECUTE):
+        for item in self.named():
+            if self.in_focus(item) and self.kinds[item] is Kind.FILE and self.due("become", item) and self.can(item, SEE, EXECUTE):
                 yield from self.executing(item)
         for item, how in self.all.opened[self.family]:
             if self.in_focus(item):
@@ -520,10 +608,10 @@ class Actor:
             if self.in_focus(item):
                 yield from self.on_item(item)
         for item, _ in self.all.opened[self.family]:
-            if self.in_focus(item) and self.due("label") and self.can(item, MARK, OWN):
+            if self.in_focus(item) and self.can(item, MARK, OWN):
                 yield from self.on_descriptor(item)
         for directory in [each for each in sorted(self.entered) if self.can(each, MARK, WRITE)]:
-            if self.in_focus(directory):
+            if self.is_near_focus(directory):
                 yield from self.making(directory)
             yield from self.moving(directory, named)
 
@@ -532,14 +620,18 @@ class Actor:
     def becomes(self, words: Tuple[Any, ...], needs: List[Fact], **values: Any) -> Iterator[Step]:
         """A change of credentials."""
         mine, new = self.credentials, self.credentials._replace(**values)
-        if self.all.merged:
-            new = mine.joined(new)
-        if new._replace(caps=mine.caps) == mine and is_less(new.caps, mine.caps):
+        known = Caps(0, 0, mine.caps.inheritable) if self.all.rough else mine.caps
+        if new._replace(caps=mine.caps) == mine and is_less(new.caps, known):
             return
-        if new not in self.all.numbers and len(self.all.credentials) >= MOST_CREDENTIALS:
+        if self.all.rough:
+            number = self.all.version(self.family, self.one, new)
+            if self.all.merged and number == self.one:
+                return
+        elif new not in self.all.numbers and len(self.all.credentials) >= MOST_CREDENTIALS:
             self.all.whole = False
             return
-        number = self.all.number(new)
+        else:
+            number = self.all.number(new)
         yield self.own_step((*words, number), needs, [(DONE, self.family, self.one, number), (ACTS, self.family, number)])
 
     def becoming(self) -> Iterator[Step]:
@@ -566,7 +658,7 @@ class Actor:
     def made(self, kind: Kind) -> int:
         """What this one makes, of a kind."""
         mine = self.credentials
-        if self.all.merged:
+        if self.all.rough:
             return self.all.cast.made_item(Made(kind, frozenset(), frozenset(), frozenset(), self.family))
         family = self.family if kind is Kind.PIPE else -1
         return self.all.cast.made_item(Made(kind, mine.labels, mine.users[1], mine.groups[1], family))
@@ -586,9 +678,9 @@ class Actor:
     def on_item(self, item: int) -> Iterator[Step]:
         """The steps on an object."""
         if self.kinds[item] is Kind.DIRECTORY:
-            if item in self.entered and self.due("chdir"):
+            if item in self.entered and self.due("chdir", item):
                 yield self.step(("chdir", item), [self.got(item), self.inside(item)], [(CWD, self.family, item)])
-        elif self.due("open"):
+        elif self.due("open", item):
             yield from self.opening(item)
         if self.is_program(item) and self.can(item, SEE, EXECUTE):
             yield self.step(("run", item), [self.got(item), *self.conditions(item, SEE, EXECUTE)], [(RAN,)])
@@ -614,78 +706,90 @@ class Actor:
 
     def executing(self, item: int) -> Iterator[Step]:
         """Executing a program."""
-        values = [self.all.values[kind, item] for kind in (MODE, OWNER, GROUP, CAPS)]
-        for mode, owner, group, caps in itertools.product(*values):
-            mine = self.credentials
-            new = rules.executed_caps(mine.caps, caps, self.all.state.bound)
-            users = (mine.users[0], one(owner), one(owner)) if mode & rules.SET_USER else mine.users
-            groups = (mine.groups[0], one(group), one(group)) if mode & rules.SET_GROUP else mine.groups
-            needs = [self.got(item), *self.conditions(item, SEE, EXECUTE), (MODE, item, mode), (CAPS, item, caps)]
-            needs += [(OWNER, item, owner)] if mode & rules.SET_USER else []
-            needs += [(GROUP, item, group)] if mode & rules.SET_GROUP else []
-            yield from self.becomes(("exec", item), needs, users=users, groups=groups, caps=new)
+        mine, needs = self.credentials, [self.got(item), *self.conditions(item, SEE, EXECUTE)]
+        for mode, caps in itertools.product(self.all.values[MODE, item], self.all.values[CAPS, item]):
+            users = self.taken_ids(OWNER, item) if mode & rules.SET_USER else [(None, [])]
+            groups = self.taken_ids(GROUP, item) if mode & rules.SET_GROUP else [(None, [])]
+            for (user, owned), (group, shared) in itertools.product(users, groups):
+                yield from self.becomes(("exec", item, mode, user, group, caps),
+                                        [*needs, (MODE, item, mode), (CAPS, item, caps), *owned, *shared],
+                                        users=mine.users if user is None else (mine.users[0], user, user),
+                                        groups=mine.groups if group is None else (mine.groups[0], group, group),
+                                        caps=rules.executed_caps(mine.caps, caps, self.all.state.bound))
+
+    def taken_ids(self, kind: str, item: int) -> List[Tuple[Optional[Values], List[Fact]]]:
+        """The owners or groups of a program that one who executes it gets, each with its need; roughly all are one."""
+        values = self.all.values[kind, item]
+        if self.all.rough:
+            return [(frozenset(values), [self.all.need((SOME, kind, item, frozenset(values)))])]
+        return [(one(value), [(kind, item, value)]) for value in values]
 
     def changing(self, item: int) -> Iterator[Step]:
         """Changing the attributes of an object."""
         owned = self.can(item, OWN)
         needs = [self.got(item), *self.conditions(item, MARK)]
-        if owned and self.due("chmod"):
+        if owned and self.due("chmod", item):
             yield from self.chmod(item, needs)
-        if owned and self.due("label"):
-            yield from self.labelling("mac_set_file", item, [*needs, *self.conditions(item, OWN)])
-            yield from self.capping("cap_set_file", item, [*needs, *self.conditions(item, OWN)])
-        if not self.due("chown"):
+        if owned:
+            yield from self.labelling(("mac_set_file",), item, [*needs, *self.conditions(item, OWN)])
+            yield from self.capping(("cap_set_file",), item, [*needs, *self.conditions(item, OWN)])
+        if not self.due("chown", item):
             return
         if self.has(Cap.CHOWN):
             makes = [(OWNER, item, user) for user in self.all.users] + [(GROUP, item, group) for group in self.all.groups]
             yield self.step(("chown", item), needs, makes)
-        elif self.owner(item):
+        elif self.can_own(item):
             makes = [(GROUP, item, group) for group in self.credentials.groups[1] | set(self.credentials.others)]
             yield self.step(("chown", item), [*needs, *self.owner(item)], makes)
 
+    def can_own(self, item: int) -> bool:
+        """Whether an object can be this one's own."""
+        return not self.credentials.users[1].isdisjoint(self.all.values[OWNER, item])
+
     def owner(self, item: int) -> List[Fact]:
-        """The fact that an object is this one's own; none where it can't be."""
-        found: List[Fact] = [(OWNER, item, user) for user in self.credentials.users[1] if user in self.all.values[OWNER, item]]
-        return found[:1]
+        """The fact that an object is this one's own."""
+        return [self.all.need((CAN, self.view, item, OWN.name))]
 
     def chmod(self, item: int, needs: List[Fact]) -> Iterator[Step]:
         """Changing the mode."""
         owner = [] if self.has(Cap.FOWNER) else self.owner(item)
         yield self.step(("chmod", item, OPEN_MODE), [*needs, *owner], [(MODE, item, OPEN_MODE)])
-        if self.kinds[item] is Kind.FILE and (self.owner(item) or self.has(Cap.FSETID)):
+        if self.kinds[item] is Kind.FILE and (self.can_own(item) or self.has(Cap.FSETID)):
             keeps = owner if self.has(Cap.FSETID) else self.owner(item)
             for bits in (rules.SET_USER, rules.SET_GROUP, rules.SET_ID):
                 yield self.step(("chmod", item, OPEN_MODE | bits), [*needs, *keeps], [(MODE, item, OPEN_MODE | bits)])
 
-    def labelling(self, call: str, item: int, needs: List[Fact]) -> Iterator[Step]:
-        """Giving an object another label."""
+    def labelling(self, words: Tuple[str, ...], item: int, needs: List[Fact]) -> Iterator[Step]:
+        """Giving an object another label; the words are the call, and of a descriptor how it is open."""
+        if not self.due("label", item):
+            return
         holders = [label for directory in self.all.values[ENTRY, item] for label in self.all.values[LABEL, directory]]
         if not self.has(Cap.MAC_UPGRADE | Cap.MAC_DOWNGRADE) or item == self.all.cast.item_of[self.all.state.root]:
             return
         for new in self.all.labels:
             caps = [Cap.MAC_UPGRADE if new.dominates(old) else Cap.MAC_DOWNGRADE for old in self.all.values[LABEL, item] if old != new]
             if any(map(self.has, caps)) and (not holders or any(map(new.dominates, holders))):
-                yield self.step((call, item, new), needs, [(LABEL, item, new)])
+                yield self.step((words[0], item, new, *words[1:]), needs, [(LABEL, item, new)])
 
-    def capping(self, call: str, item: int, needs: List[Fact]) -> Iterator[Step]:
-        """Giving a file capability sets."""
+    def capping(self, words: Tuple[str, ...], item: int, needs: List[Fact]) -> Iterator[Step]:
+        """Giving a file capability sets; the words are as above."""
         permitted = self.credentials.caps.permitted
-        if self.kinds[item] is Kind.FILE and self.has(Cap.SETFCAP) and permitted and self.due("caps"):
+        if self.kinds[item] is Kind.FILE and self.has(Cap.SETFCAP) and permitted and self.due("caps", item):
             caps = Caps(permitted, permitted, permitted)
-            yield self.step((call, item, caps), needs, [(CAPS, item, caps)])
+            yield self.step((words[0], item, caps, *words[1:]), needs, [(CAPS, item, caps)])
 
     # ---- on a descriptor
 
     def handing(self, item: int, how: str) -> Iterator[Step]:
         """Reading the bytes, and writing them."""
         opened, stream = (OPENED, self.family, item, how), self.kinds[item].stream
-        if how == "r" and self.due("read") and (TAINT, item) in self.all.facts and self.can(item, SEE, *([MARK] if stream else [])):
+        if how == "r" and self.due("read", item) and (TAINT, item) in self.all.facts and self.can(item, SEE, *([MARK] if stream else [])):
             needs = [opened, (TAINT, item), *self.conditions(item, SEE, *([MARK] if stream else []))]
             needs += [(MANY, self.family)] if self.kinds[item] is Kind.PIPE else []
             yield self.own_step(("read", item), needs, [(HOLDS, self.family, self.one)])
         holds = (HOLDS, self.family, self.one)
         heard = not stream or (HEARD, item) in self.all.facts
-        if how == "w" and self.due("write") and holds in self.all.facts and heard and self.can(item, MARK):
+        if how == "w" and self.due("write", item) and holds in self.all.facts and heard and self.can(item, MARK):
             needs = [holds, opened, *self.conditions(item, MARK), *([(HEARD, item)] if stream else [])]
             yield self.own_step(("write", item), needs, [(TAINT, item)])
 
@@ -693,8 +797,8 @@ class Actor:
         """Changing an object that is open."""
         for how in [how for other, how in self.all.opened[self.family] if other == item]:
             needs = [(OPENED, self.family, item, how), *self.conditions(item, MARK, OWN)]
-            yield from self.labelling("mac_set_fd", item, needs)
-            yield from self.capping("cap_set_fd", item, needs)
+            yield from self.labelling(("mac_set_fd", how), item, needs)
+            yield from self.capping(("cap_set_fd", how), item, needs)
 
     # ---- in a directory that is written
 
@@ -714,9 +818,9 @@ class Actor:
         """Making an object in a directory, and taking names of the path TO away."""
         if any(map(self.all.views[self.view].dominates, self.all.values[LABEL, directory])):
             for kind, call, what in ((Kind.FILE, "open", "make"), (Kind.FIFO, "mkfifo", "mkfifo"), (Kind.DIRECTORY, "mkdir", "mkdir")):
-                if self.due(what):
+                if self.due(what, directory):
                     yield from self.making_kind(directory, kind, call)
-        for name in self.all.names[directory] if self.due("free") else ():
+        for name in self.all.names[directory] if self.due("free", directory) else ():
             for item in self.all.at[directory, name]:
                 yield from self.freeing(directory, name, item)
 
@@ -745,21 +849,21 @@ class Actor:
 
     def moving(self, directory: int, named: List[int]) -> Iterator[Step]:
         """Giving an object another name, in a directory."""
-        if not self.due("move"):
-            return
-        for item in named:
-            if self.is_known(item, directory) or not (self.in_focus(item) or self.in_focus(directory)):
-                continue
-            if not self.can(item, MARK) or not self.fits(item, directory):
+        for item in self.movable(directory, named):
+            if not self.due("move", item, directory) or not self.can(item, MARK) or not self.fits(item, directory):
                 continue
             if self.kinds[item] is not Kind.DIRECTORY:
                 yield from self.linking(item, directory)
             if self.kinds[item] is Kind.DIRECTORY or self.all.taken_names(directory, item):
                 yield from self.renaming(item, directory)
 
-    def is_known(self, item: int, directory: int) -> bool:
-        """Whether nothing new comes of moves of an object into a directory, where facts alone are asked for and no steps."""
-        return self.all.merged and not self.all.names[directory] and (ENTRY, directory, item) in self.all.facts
+    def movable(self, directory: int, named: List[int]) -> List[int]:
+        """The objects whose moves into a directory are asked for; where facts alone are, and no steps, those that bring new ones."""
+        if self.all.merged and not self.all.names[directory]:
+            named = [item for item in named if (ENTRY, directory, item) not in self.all.facts]
+        if not self.is_near_focus(directory):
+            named = [item for item in named if self.in_focus(item)]
+        return named
 
     def fits(self, item: int, directory: int) -> bool:
         """Whether some label of an object dominates one of a directory."""
@@ -769,7 +873,7 @@ class Actor:
 
     def linking(self, item: int, directory: int) -> Iterator[Step]:
         """Linking an object into a directory."""
-        names, moved = self.all.taken_names(directory, item), self.due("free") and self.all.is_moved(item, directory)
+        names, moved = self.all.taken_names(directory, item), self.all.has_left("free", self.family) and self.all.is_moved(item, directory)
         if not names and not moved:
             return
         needs = [self.got(item), *self.marked(item), *self.written(directory)]
@@ -781,7 +885,7 @@ class Actor:
 
     def renaming(self, item: int, directory: int) -> Iterator[Step]:
         """Moving an object into a directory."""
-        names, moved = self.all.taken_names(directory, item), self.due("free") and self.all.is_moved(item, directory)
+        names, moved = self.all.taken_names(directory, item), self.all.has_left("free", self.family) and self.all.is_moved(item, directory)
         if not names and not moved:
             return
         olds = self.all.values[ENTRY, item] if self.kinds[item] is Kind.DIRECTORY else sorted(self.all.births[item])

@@ -27,6 +27,7 @@ HEARD = "heard"      # object: it is open for reading
 IN = "in"            # family, view, directory: it may be searched
 GOT = "got"          # family, view, object: a path leads there
 CAN = "can"          # view, object, right
+SOME = "some"        # kind of attribute, object, values: it has one of these values
 DONE = "done"        # a step was made that gives credentials
 ON_PATH = "on path"  # count, directory: the first names of the path TO lead there
 GOAL: Fact = ("goal",)
@@ -75,6 +76,10 @@ class View(NamedTuple):
     def dominates(self, label: Label) -> bool:
         """Whether the label dominates another one."""
         return any(own.dominates(label) for own in self.labels)
+
+    def fits(self, label: Label, sees: bool) -> bool:
+        """Whether an object with this label may be seen, or changed."""
+        return label in self.labels or (sees and self.dominates(label))
 
 
 class Right(NamedTuple):

@@ -10,13 +10,14 @@ from labask.search.closure import Closure, most_of
 from labask.search.costs import Task
 from labask.search.facts import (ACTS, AS, AT, CWD, ENTRY, FREE, GOAL, HEARD, HOLDS, MANY, ON_PATH, OPENED, TAINT, TRUE, UMASK, Fact, Step,
                                  credentials_of, one)
-from labask.search.problem import MARK, MOST_ALIKE, Made, Problem
+from labask.search.problem import MARK, MOST_ALIKE, Cast, Grain, Made, Problem
 from labask.search.slicing import kept_steps, sliced
+from labask.search.wanted import Wanted
 
 STEPS_FOR_A_STATE = 50  # as many steps may be collected for each state that may be looked at
-# The calls from which on it is asked first whether a script of any length is there, and whether objects that are alike count as one
-# then; shorter scripts are found sooner.
-PROVED_FROM = {4: True, 6: False}
+# The calls from which on it is asked first whether a script of any length is there, and how finely; shorter scripts are found sooner.
+PROVED_FROM = {4: Grain.CLASSES, 6: Grain.COARSE, 7: Grain.FINE}
+FEWER = 0.7  # classes are asked about where there are fewer than this part of what is told apart coarsely
 
 
 class Ending(enum.Enum):
@@ -69,6 +70,7 @@ class Search:
         self.accepts, self.over, self.most = accepts, over, most_states
         self.closure = Closure(problem)
         self.cast = self.closure.cast
+        self.grains = grains_of(problem)
         self.collected = True
         self.excluded = 0
         self.numbers: Dict[Any, int] = {}
@@ -94,13 +96,15 @@ class Search:
                 return self.result(Ending.FOUND, script)
             if self.collected:
                 self.excluded = bound
-        if any(self.is_never(coarse) for bound, coarse in PROVED_FROM.items() if bound > depth):
+        if any(self.is_never(grain) for bound, grain in PROVED_FROM.items() if bound > depth):
             return Result(Ending.NEVER)
         return self.result(Ending.DEPTH)
 
-    def is_never(self, coarse: bool) -> bool:
-        """Whether no script of any length leads to the goal; a coarse closure is collected sooner, and shows it less often."""
-        merged = Closure(self.whole, coarse=coarse).begin().collect(self.over)
+    def is_never(self, grain: Grain) -> bool:
+        """Whether no script of any length leads to the goal; a coarser closure is collected sooner, and shows it less often."""
+        if grain not in (*self.grains, Grain.FINE):
+            return False
+        merged = Closure(self.whole, grain=grain).begin().collect(self.over)
         return merged.whole and GOAL not in merged.facts
 
     def result(self, ending: Ending, script: Tuple[Line, ...] = ()) -> Result:
@@ -112,21 +116,23 @@ class Search:
     def look_within(self, bound: int) -> Optional[Tuple[Line, ...]]:
         """A script of so many calls."""
         self.bound, self.failed, self.tasks = bound, {}, {}
-        self.problem = self.whole
-        coarse = self.collect(bound, True)
-        self.kept = kept_steps(coarse.steps.values(), self.facts(self.first_node()), bound)
-        if not self.kept:
-            return None
-        self.problem = sliced(self.whole, self.cast, [step for _, step in self.kept])
-        closure = self.collect(bound, False)
+        self.problem, wanted = self.whole, None
+        for grain in self.grains:
+            rough = self.collect(bound, grain, wanted)
+            steps = [step for _, step in kept_steps(rough.steps.values(), rough.first, bound)]
+            if not steps:
+                return None
+            wanted = Wanted(self.cast, steps)
+            self.problem = sliced(self.problem, self.cast, steps, wanted.choices())
+        closure = self.collect(bound, Grain.FINE, wanted)
         self.kept = kept_steps(closure.steps.values(), self.facts(self.first_node()), bound)
         families = {step.family for _, step in self.kept if step.cost}
         self.forks = [step for step in closure.steps.values() if step.words == ("fork",) and step.family in families]
         return self.look(self.first_node(), bound, ()) if self.kept else None
 
-    def collect(self, bound: int, coarse: bool) -> Closure:
-        """The closure of scripts of so many calls."""
-        self.closure = Closure(self.problem, bound, coarse=coarse).begin()
+    def collect(self, bound: int, grain: Grain, wanted: Optional[Wanted]) -> Closure:
+        """The closure of scripts of so many calls, of those that are wanted."""
+        self.closure = Closure(self.problem, bound, grain, wanted).begin()
         self.cast, self.numbers = self.closure.cast, {}
         for _ in range(bound):
             if not self.closure.advance(self.over):
@@ -314,6 +320,12 @@ class Search:
         return self.cast.made_item(Made(thing.kind, frozenset((thing.label,)), one(thing.owner), one(thing.group), family))
 
 
+def grains_of(problem: Problem) -> List[Grain]:
+    """The grains in which the steps of a script are looked for, one after the other, before they are told apart finely."""
+    classes, coarse = Cast(problem, Grain.CLASSES).size, Cast(problem, Grain.COARSE).size
+    return [Grain.CLASSES, Grain.COARSE] if classes < FEWER * coarse else [Grain.COARSE]
+
+
 class Instances:
     """The calls of a state that are a step."""
 
@@ -391,10 +403,11 @@ class Instances:
     def on_descriptors(self, who: Number, name: str, rest: Sequence[Any]) -> Iterator[Call]:
         """The calls on descriptors."""
         things = set(self.things(rest[0]))
-        values = {"read": (MOST_FILE_BYTES,), "write": (MARK,)}.get(name, tuple(rest[1:]))
+        values = {"read": (MOST_FILE_BYTES,), "write": (MARK,)}.get(name, tuple(rest[1:2]))
+        reads = name == "read" or (name != "write" and rest[2] == "r")
         for fd, did in self.state.processes[who].descriptors:
             description = self.state.descriptions[did]
-            fits = {"read": description.reads, "write": description.writes}.get(name, True)
+            fits = description.reads if reads else description.writes
             if description.thing in things and fits:
                 yield Call(name, (fd, *values))
 

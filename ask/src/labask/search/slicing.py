@@ -6,14 +6,15 @@ from typing import Any, DefaultDict, Dict, Iterable, Iterator, List, Sequence, S
 
 from labask.kernel.state import Number
 from labask.search.costs import Task
-from labask.search.facts import (AT, CAN, CAPS, CWD, ENTRY, FREE, GOT, GROUP, HEARD, IN, LABEL, MODE, ON_PATH, OPENED, OWNER, TAINT, Fact,
-                                 Step)
-from labask.search.problem import MOST_ALIKE, Cast, Problem
+from labask.search.facts import (AT, CAN, CAPS, CWD, ENTRY, FREE, GOT, GROUP, HEARD, IN, LABEL, MODE, ON_PATH, OPENED, OWNER, SOME,
+                                 TAINT, Fact, Step)
+from labask.search.problem import MOST_ALIKE, Cast, Choices, Grain, Problem
+from labask.search.wanted import purpose
 
 # The places of objects in facts.
 PLACES: Dict[str, Tuple[int, ...]] = {
     LABEL: (1,), OWNER: (1,), GROUP: (1,), MODE: (1,), CAPS: (1,), ENTRY: (1, 2), AT: (1, 3), FREE: (1,), TAINT: (1,), HEARD: (1,),
-    CWD: (2,), OPENED: (2,), ON_PATH: (2,), IN: (3,), GOT: (3,), CAN: (2,),
+    CWD: (2,), OPENED: (2,), ON_PATH: (2,), IN: (3,), GOT: (3,), CAN: (2,), SOME: (2,),
 }
 STILL_LESS = 0.9  # steps are left out again while fewer than this part of them are kept
 
@@ -27,7 +28,7 @@ def kept_steps(steps: Iterable[Step], first: Iterable[Fact], bound: int) -> List
         before = task.reach(start, task.costs).steps
         due = [step.cost + min(left[made] for made in makes) for step, makes in zip(given, task.makes)]
         # the better bound takes longer, so that it is asked of what the first one leaves
-        at_least = task.through(start, bound) if lasting else [one + rest for one, rest in zip(before, due)]
+        at_least = through(task, start, bound) if lasting else [one + rest for one, rest in zip(before, due)]
         kept = [at for at, rest in enumerate(due) if before[at] + rest <= bound and at_least[at] <= bound]
         if not kept or (lasting and len(kept) > STILL_LESS * len(given)):
             break
@@ -35,24 +36,32 @@ def kept_steps(steps: Iterable[Step], first: Iterable[Fact], bound: int) -> List
     return [(due[at], given[at]) for at in kept]
 
 
+def through(task: Task, start: List[int], bound: int) -> List[int]:
+    """How many calls a script has at least that has a step, by the best of some bounds: each depends on the order of the facts."""
+    half = len(start) // 2
+    orders = (start, start[::-1], start[half:] + start[:half])
+    return [max(each) for each in zip(*(task.through(order, bound) for order in orders))]
+
+
 def items_of(steps: Iterable[Step]) -> Set[int]:
-    """The items of the facts of steps."""
-    facts = {fact for step in steps for fact in (*step.needs, *step.makes)}
-    return {fact[place] for fact in facts for place in PLACES.get(fact[0], ())}
+    """The items of the facts of steps, and those that their calls name."""
+    given = list(steps)
+    facts = {fact for step in given for fact in (*step.needs, *step.makes)}
+    named = {item for step in given if step.cost for item in purpose(step.words)[1]}
+    return named | {fact[place] for fact in facts for place in PLACES.get(fact[0], ())}
 
 
-def sliced(problem: Problem, cast: Cast, steps: Sequence[Step]) -> Problem:
-    """The problem with the objects and processes alone of which steps are; of objects that are alike it has some."""
+def sliced(problem: Problem, cast: Cast, steps: Sequence[Step], choices: Choices) -> Problem:
+    """The problem with the objects and processes alone of which steps are, and with these choices; of objects that are alike it has some."""
     state = problem.state.copy()
     families = {step.family for step in steps if step.cost}
-    asked = {number for number in (problem.process, problem.knows) if number is not None}
     kept = Kept(problem, cast, items_of(steps)).numbers()
     state.things = {number: thing for number, thing in state.things.items() if number in kept}
     state.spots = {number: spots for number, spots in state.spots.items() if number in kept}
     state.names = {number: names for number, names in state.names.items() if number in kept}
     state.processes = {number: process for number, process in state.processes.items()
-                       if number in asked or cast.family_of[number] in families}
-    return dataclasses.replace(problem, state=state)
+                       if number in problem.asked or cast.family_of[number] in families}
+    return dataclasses.replace(problem, state=state, choices=choices)
 
 
 class Kept:
@@ -60,7 +69,8 @@ class Kept:
 
     def __init__(self, problem: Problem, cast: Cast, items: Set[int]):
         self.problem, self.state, self.cast, self.items = problem, problem.state, cast, items
-        self.asked = problem.kept()
+        self.asked = problem.kept
+        self.most = len(problem.state.things) if cast.grain is Grain.CLASSES else MOST_ALIKE
         self.forms: Dict[Any, int] = {}
         self.form_of: Dict[Number, int] = {}
         for number in reversed(list(self.state.things)):
@@ -69,13 +79,17 @@ class Kept:
     def note(self, number: Number) -> None:
         """Notes the form of an object: objects of one form are alike with all that lies in them. What lies in it was noted before."""
         inside: DefaultDict[Tuple[bytes, int], int] = defaultdict(int)
-        for name, child in self.state.names.get(number, {}).items():
+        for name, child in self.entries(number):
             inside[self.own_name(name), self.form_of[child]] += 1
             if self.cast.item_of[child] in self.items:
                 self.items.add(self.cast.item_of[number])
-        counts = frozenset((each, min(count, MOST_ALIKE)) for each, count in inside.items())
+        counts = frozenset((each, min(count, self.most)) for each, count in inside.items())
         key = (number if number in self.asked else None, self.cast.item_of[number], counts)
         self.form_of[number] = self.forms.setdefault(key, len(self.forms))
+
+    def entries(self, directory: Number) -> List[Tuple[bytes, Number]]:
+        """The entries of a directory that are there; of those that were left out it has the names alone."""
+        return [(name, number) for name, number in self.state.names.get(directory, {}).items() if number in self.state.things]
 
     def own_name(self, name: bytes) -> bytes:
         """A name, where it matters because the path TO has it."""
@@ -93,8 +107,8 @@ class Kept:
     def inside(self, directory: Number) -> Iterator[Number]:
         """What is kept of the entries of a directory."""
         alike: DefaultDict[int, int] = defaultdict(int)
-        for name, number in self.state.names.get(directory, {}).items():
+        for name, number in self.entries(directory):
             form = self.form_of[number]
             alike[form] += self.cast.item_of[number] in self.items
-            if name in self.problem.names or (self.cast.item_of[number] in self.items and alike[form] <= MOST_ALIKE):
+            if name in self.problem.names or (self.cast.item_of[number] in self.items and alike[form] <= self.most):
                 yield number
