@@ -6,6 +6,7 @@ import pytest
 from support import TOP, labask
 
 from labask.answers import WrongWords
+from labask.path_patterns import PathPattern
 from labask.sets import objects_named, processes_named
 from labask.worlds import read_world
 
@@ -39,6 +40,20 @@ def test_objects_are_those_that_are_named(word: str) -> None:
     else:
         with pytest.raises(WrongWords):
             objects_named(world, word)
+
+
+@pytest.mark.parametrize("pattern", ["/**" * 20 + "/b", "/*a" * 20 + "/b", "/**/*?**" * 10 + "/b"])
+def test_a_path_takes_at_most_a_step_for_each_byte(pattern: str, monkeypatch: pytest.MonkeyPatch) -> None:
+    steps, step = [], PathPattern.step
+
+    def counted(self, places, byte):
+        steps.append(len(places))
+        return step(self, places, byte)
+
+    monkeypatch.setattr(PathPattern, "step", counted)
+    found, path = PathPattern(pattern.encode()), b"/aa" * 300
+    assert not found.matches(path + b"/c") and found.matches(b"/aa" * 20 + b"/b")
+    assert len(steps) <= 2 * len(path) and max(steps) <= len(found.parts) + 1
 
 
 @pytest.mark.parametrize("word, tags", [("1@low", ["1@low"]), ("002@low", ["2@low"]), ("label:low", ["1@low", "2@low"]),

@@ -4,17 +4,14 @@
 any names between two, or none. `label:LABEL` names what has this label. A path that is there names that object alone, also where it
 has such signs.
 """
-import re
-from typing import List, Optional, Pattern, TypeVar
+from typing import List, Optional, TypeVar
 
 from labask.answers import WrongWords
+from labask.path_patterns import pattern_of
 from labask.worlds import World, WorldObject, WorldProcess, canonical_path, path_word
 
 Thing = TypeVar("Thing", WorldObject, WorldProcess)
 LABEL = "label:"
-SIGNS = {b"/**": b"(?:/.*)?", b"**": b".+", b"*": b"[^/]*", b"?": b"[^/]"}
-SIGN = re.compile(rb"(/\*\*(?=/)|\*\*|[*?])")
-NOT_ROOT = rb"(?!/\Z)"
 
 
 def found(things: List[Thing], message: str) -> List[Thing]:
@@ -29,14 +26,6 @@ def label_named(world: World, text: str) -> Optional[str]:
     return world.policy.canonical(text[len(LABEL):]) if text.startswith(LABEL) else None
 
 
-def pattern_of(path: bytes) -> Optional[Pattern[bytes]]:
-    """The pattern of paths that a path has, or None where it has no sign of one."""
-    pieces = SIGN.split(path)
-    if len(pieces) == 1:
-        return None
-    return re.compile(NOT_ROOT + b"".join(SIGNS.get(piece) or re.escape(piece) for piece in pieces), re.S)
-
-
 def objects_named(world: World, text: str) -> List[WorldObject]:
     """The objects that a word names, in the order of the world; raises `WrongWords` where there is none."""
     label = label_named(world, text)
@@ -47,7 +36,7 @@ def objects_named(world: World, text: str) -> List[WorldObject]:
     if pattern is None:
         return found([world.objects_by_path[path]] if path in world.objects_by_path else [],
                      f"no line of the world has the path {path_word(path)}")
-    return found([each for each in world.objects if pattern.fullmatch(each.path)], f"no line of the world has a path {path_word(path)}")
+    return found([each for each in world.objects if pattern.matches(each.path)], f"no line of the world has a path {path_word(path)}")
 
 
 def processes_named(world: World, text: str) -> List[WorldProcess]:
