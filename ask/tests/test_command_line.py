@@ -88,6 +88,7 @@ OTHERS = {
     "copying": ('echo "$1"; cat', 'answered "--version"'), "resting": ("sleep 60", "did not answer within 1 seconds"),
     "endless": ("while :; do printf x; done", f'answered "{"x" * 64}"'),
     "slow": ("printf labsys; sleep 60 & wait", "did not answer within 1 seconds"),
+    "hanging": ('[ "$1" != --version ] || exec echo labsys 1.0.0; sleep 60', "did not answer within 1 seconds"),
 }
 
 

@@ -30,6 +30,7 @@ RECORD = re.compile(rb"^[0-9]+ ", re.M)  # begins the line of a record of a trai
 LAST_LINE = re.compile(rb"^done [0-9]+\n\Z", re.M)
 FIRST_SECONDS = 10.0  # within which a program says its version
 FIRST_BYTES = 64  # of its answer that are read
+SMALL_WORLD = b'world 2\nlevels low\ncategories\nbound all\ndir / 0755 0 0 low\nproc low 0 0 - "="\nscript\n1@low getpid\n'
 
 
 class Outcome(enum.Enum):
@@ -391,19 +392,37 @@ def find_program(given: Optional[str] = None) -> str:
 @functools.lru_cache(maxsize=None)
 def require_labsys(path: str) -> None:
     """Raises `PlayingFault` where a program does not say, when it is asked for its version, that it is `labsys`."""
-    try:
-        run = subprocess.Popen([path, "--version"], stdin=subprocess.DEVNULL, stdout=subprocess.PIPE, stderr=subprocess.DEVNULL,
-                               start_new_session=True)
-    except OSError as fault:
-        raise PlayingFault(f"{path}: {fault.strerror}") from fault
-    try:
-        line, late = first_line(pipe_end(run.stdout).fileno())
-    finally:
-        with run:
-            kill_session(run)
+    line, late = first_answer(path, "--version", b"")
     if not VERSION.match(line):
-        said = f"did not answer within {FIRST_SECONDS:.0f} seconds" if late else f"answered {quoted(line)}"
+        said = no_answer() if late else f"answered {quoted(line)}"
         raise PlayingFault(f"{path} is not labsys: asked for its version, it {said}")
+
+
+def require_answer(path: str) -> None:
+    """Raises `PlayingFault` where a program that says it is `labsys` does not answer whether a small world is accepted."""
+    if first_answer(path, "check", SMALL_WORLD)[1]:
+        raise PlayingFault(f"{path} is not labsys: asked to check a small world, it {no_answer()}")
+
+
+def no_answer() -> str:
+    """That a program did not answer in time, in words."""
+    return f"did not answer within {FIRST_SECONDS:.0f} seconds"
+
+
+def first_answer(path: str, command: str, text: bytes) -> Tuple[bytes, bool]:
+    """The beginning of the first line that a command of a program answers to a text, and whether the time for it was over."""
+    with tempfile.TemporaryFile() as given:
+        given.write(text)
+        given.seek(0)
+        try:
+            run = subprocess.Popen([path, command], stdin=given, stdout=subprocess.PIPE, stderr=subprocess.DEVNULL, start_new_session=True)
+        except OSError as fault:
+            raise PlayingFault(f"{path}: {fault.strerror}") from fault
+        try:
+            return first_line(pipe_end(run.stdout).fileno())
+        finally:
+            with run:
+                kill_session(run)
 
 
 def first_line(descriptor: int) -> Tuple[bytes, bool]:

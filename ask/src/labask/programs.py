@@ -9,14 +9,13 @@ import subprocess
 import tempfile
 from typing import Optional
 
-from labask.playing import ANSWERED, PlayingFault
-
-ASKED = b'world 2\nlevels low\ncategories\nbound all\ndir / 0755 0 0 low\nproc low 0 0 - "="\nscript\n1@low getpid\n'
+from labask.playing import ANSWERED, SMALL_WORLD, PlayingFault, require_answer
 
 
 def program_behind(path: str) -> str:
     """The program that a script of the repository starts, by which it is played once; another program is that program itself."""
     if not is_script(pathlib.Path(path).resolve()):
+        require_answer(path)
         return path
     with tempfile.TemporaryDirectory(prefix="labask-") as folder:
         try:
@@ -41,7 +40,7 @@ def answering_program(run: "subprocess.Popen[bytes]") -> Optional[str]:
     """The file that a process executes when it answers a call, where its name is that of `labsys`."""
     assert run.stdin is not None and run.stdout is not None
     try:
-        run.stdin.write(ASKED)
+        run.stdin.write(SMALL_WORLD)
         run.stdin.flush()
         answered = run.stdout.readline()
         found = os.readlink(f"/proc/{run.pid}/exe") if answered else ""
