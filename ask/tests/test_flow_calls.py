@@ -59,6 +59,15 @@ WAYS = [
         ["setuid 20", "open /d/s/a r", "read 0 6"]),
     Way("an object is open while its label changes", 'dir / 0755 0 0 low\nfile /a 0644 10 10 high "secret"\nproc low 11 11 - "="\n'
         'proc high 10 10 - "cap_mac_downgrade=ep"\n', "/a", "1@low", ["mac_set_file /a low", "open /a r", "read 0 6"]),
+    Way("a label is raised so that the object may be moved", 'dir / 0755 0 0 low\ndir /a 0700 10 10 low\nfile /a/f 0400 10 10 low "secret"\n'
+        'dir /d 0700 10 10 high\nfile /d/g 0400 20 20 high "letter"\nproc low 10 10 - "cap_mac_write,cap_mac_read,cap_mac_upgrade=ep"\n',
+        "/a/f", "/d/g", ["mac_set_file /a/f high", "rename /a/f /d/g"]),
+    Way("what is replaced gets another owner and label first", 'dir / 0777 20 20 low\nfile /a 0666 20 10 low "secret"\n'
+        'file /b 0640 20 10 high "letter"\nproc high 10 10 - "cap_mac_downgrade,cap_chown=ep"\nproc low 20 10 - "="\n', "/a", "/b",
+        ["chown /b 10 10", "mac_set_file /b low", "rename /a /b"]),
+    Way("a process gets the label of what it moves and replaces", 'dir / 0777 20 20 low\nfile /a 0000 20 20 low "secret"\n'
+        'file /b 0000 30 10 high "letter"\nproc high 10 10 - "cap_mac_downgrade,cap_fowner,cap_mac_relabel_subj=ep"\n', "/a", "/b",
+        ["mac_set_file /b low", "mac_set_proc low", "rename /a /b"]),
 ]
 
 
@@ -78,6 +87,24 @@ def test_the_shortest_way_is_found(way: Way, tmp_path: pathlib.Path, player: Pla
     assert (status, calls) == (3, way.calls)
     played = player.play_accepted(answer["world"].encode("latin-1"))
     assert all(reply.outcome is Outcome.DONE for reply in played.replies)
+
+
+def wards(count: int) -> str:
+    """The lines of wards that differ in names alone: each has a directory, a record and a doctor; a visitor may execute a program."""
+    lines = 'dir / 0755 0 0 low\nfile /x 4755 1 1 low "" "cap_dac_read_search=ep"\nfile /board 0644 7 7 low "news"\nproc low 7 7 - "="\n'
+    for ward in range(count):
+        lines += f'dir /w{ward} 0750 {10 + ward} {10 + ward} low\nfile /w{ward}/a 0640 {10 + ward} {10 + ward} low "secret"\n'
+    return lines + "".join(f'proc high {10 + ward} {10 + ward} - "="\n' for ward in range(count))
+
+
+def test_many_who_differ_in_names_alone_are_asked_about_as_one(tmp_path: pathlib.Path) -> None:
+    lines = "\n".join(sorted(wards(12).strip().split("\n"), key=lambda line: line.startswith("proc"))) + "\n"
+    _, answer = asked(tmp_path, lines, "/w3/a", "/board")
+    due = ["exec /x", "open /w3/a r", "read 0 6", "open /board w", "write 1 secret"]
+    calls = [call["text"].split(" ", 1)[1] for call in answer["calls"]]
+    assert len(calls) == 5 and answer["excluded_calls"] == 4 and {call.split()[0] for call in calls} == {each.split()[0] for each in due}
+    status, answer = asked(tmp_path, lines, "/w3/a", "/w5/a", "--without", "cap_dac_read_search")
+    assert (status, answer["ending"]) == (0, "never")
 
 
 def test_a_door_that_another_process_opens_is_of_that_process(tmp_path: pathlib.Path) -> None:

@@ -26,7 +26,7 @@ def test_a_whole_search_excludes_shorter_scripts(player: Player) -> None:
 
 
 def test_a_search_that_was_cut_does_not_exclude_what_it_left_out(player: Player, monkeypatch: pytest.MonkeyPatch) -> None:
-    monkeypatch.setattr(closure, "MOST_CREDENTIALS", len(WORLD.processes))
+    monkeypatch.setattr(closure, "MOST_CREDENTIALS", 1)
     answer = answer_of(player, CALLS)
     assert answer.found is None and answer.result.ending is Ending.STATES and answer.result.excluded < CALLS
     assert f"at most {CALLS} calls" not in flow.why_stopped(answer, flow.Limits(CALLS))

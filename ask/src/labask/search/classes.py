@@ -1,10 +1,11 @@
 """Classes of processes and of objects that differ in names alone: of users, groups, categories, files and directories."""
 from collections import defaultdict
-from typing import Any, DefaultDict, Dict, Hashable, List, Set, Tuple
+from typing import DefaultDict, Dict, Hashable, List, Mapping, Set, Tuple, TypeVar
 
 from labask.kernel.state import Label, Number, Process, State, Thing
 
 Color = int
+Key = TypeVar("Key")
 Name = Tuple[str, int]  # a user, a group or a category
 
 
@@ -29,12 +30,12 @@ class Classes:
     @property
     def count(self) -> int:
         """How many colors there are."""
-        return sum(len(set(colors.values())) for colors in (self.things, self.processes, self.names))
+        return len(set(self.things.values())) + len(set(self.processes.values())) + len(set(self.names.values()))
 
     def refine(self) -> None:
         """Colors all once more, by the colors around."""
-        labels = {label: self.label_color(label) for label in {each.label for each in (*self.state.things.values(),
-                                                                                     *self.state.processes.values())}}
+        there = {thing.label for thing in self.state.things.values()} | {each.label for each in self.state.processes.values()}
+        labels = {label: self.label_color(label) for label in there}
         things = {number: (self.things[number], *self.around(number, thing), labels[thing.label])
                   for number, thing in self.state.things.items()}
         processes = {number: (self.processes[number], self.names["user", process.ids.ruid], self.names["group", process.ids.rgid],
@@ -79,7 +80,7 @@ def names_of(process: Process) -> List[Name]:
     return [("user", process.ids.ruid), ("group", process.ids.rgid), *groups, *category_names(process.label)]
 
 
-def colored(keys: Dict[Any, Hashable]) -> Dict[Any, Color]:
+def colored(keys: Mapping[Key, Hashable]) -> Dict[Key, Color]:
     """A color for each, the same where the keys are equal."""
     colors: Dict[Hashable, Color] = {}
     return {each: colors.setdefault(key, len(colors)) for each, key in keys.items()}

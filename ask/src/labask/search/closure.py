@@ -5,7 +5,7 @@ from typing import Any, Callable, DefaultDict, Dict, Iterable, Iterator, List, M
 
 from labask.kernel import rules
 from labask.kernel.state import NO_CAPS, Cap, Caps, Kind, Label, State, Thing
-from labask.search.facts import (ACTS, AS, AT, CAN, CAPS, CWD, DONE, ENTRY, EXECUTE, FREE, GOAL, GOT, GROUP, HEARD, HOLDS, IN, LABEL,
+from labask.search.facts import (ACTS, AS, AT, CAN, CAPS, CWD, DONE, ENTRY, EXECUTE, FITS, FREE, GOAL, GOT, GROUP, HEARD, HOLDS, IN, LABEL,
                                  MANY, MARK, MODE, ON_PATH, OPENED, OWN, OWNER, RAN, READ, SEARCH,
                                  SEE, SOME, TAINT, TRUE, UMASK, WRITE, Credentials, Fact, Right, Step,
                                  Values, View, one)
@@ -429,7 +429,8 @@ class Closure:
         """Whether an object that a script makes is moved: a FIFO, a file with the bytes or more modes, a directory that holds the bytes."""
         if self.cast.kinds[item] is Kind.DIRECTORY:
             return any((TAINT, child) in self.facts for child in self.children[item])
-        return self.cast.kinds[item] is not Kind.FILE or (TAINT, item) in self.facts or len(self.values[MODE, item]) > (1 if self.rough else 2)
+        first_modes = 1 if self.rough else 2
+        return self.cast.kinds[item] is not Kind.FILE or (TAINT, item) in self.facts or len(self.values[MODE, item]) > first_modes
 
     def cwds(self, family: int) -> List[Fact]:
         """The facts of the current directories of a family."""
@@ -444,7 +445,7 @@ class Closure:
         while len(done) < len(self.asked):
             for fact in [each for each in self.asked if each not in done]:
                 done.add(fact)
-                how = {CAN: self.can_steps, GOT: self.got_steps, IN: self.in_steps, SOME: self.some_steps}[fact[0]](fact)
+                how = {CAN: self.can_steps, GOT: self.got_steps, IN: self.in_steps, SOME: self.some_steps, FITS: self.fits_steps}[fact[0]](fact)
                 for count, needs in enumerate(how):
                     self.steps[fact, count] = Step(0, needs, (fact,))
         self.derive_goal()
@@ -475,6 +476,12 @@ class Closure:
         """How an object has one of some values."""
         _, kind, item, values = fact
         return [((kind, item, value),) for value in values]
+
+    def fits_steps(self, fact: Fact) -> List[Tuple[Fact, ...]]:
+        """How the label of an object dominates that of a directory."""
+        _, item, directory = fact
+        pairs = itertools.product(self.values[LABEL, item], self.values[LABEL, directory])
+        return [((LABEL, item, one), (LABEL, directory, other)) for one, other in pairs if one.dominates(other)]
 
     def got_steps(self, fact: Fact) -> List[Tuple[Fact, ...]]:
         """How a path to an object follows."""
@@ -769,7 +776,17 @@ class Actor:
         for new in self.all.labels:
             caps = [Cap.MAC_UPGRADE if new.dominates(old) else Cap.MAC_DOWNGRADE for old in self.all.values[LABEL, item] if old != new]
             if any(map(self.has, caps)) and (not holders or any(map(new.dominates, holders))):
-                yield self.step((words[0], item, new, *words[1:]), needs, [(LABEL, item, new)])
+                more = [*self.relabelled(item, new), *self.holding(item, new)]
+                yield self.step((words[0], item, new, *words[1:]), [*needs, *more], [(LABEL, item, new)])
+
+    def relabelled(self, item: int, new: Label) -> List[Fact]:
+        """The fact that an object has a label which this one may take for another."""
+        return self.labelled(item, lambda old: old == new or self.has(Cap.MAC_UPGRADE if new.dominates(old) else Cap.MAC_DOWNGRADE))
+
+    def holding(self, item: int, new: Label) -> List[Fact]:
+        """The fact that a new label of an object dominates that of the directory which has it; none where several may."""
+        holders = self.all.values[ENTRY, item]
+        return self.labelled(holders[0], new.dominates) if len(holders) == 1 else []
 
     def capping(self, words: Tuple[str, ...], item: int, needs: List[Fact]) -> Iterator[Step]:
         """Giving a file capability sets; the words are as above."""
@@ -828,6 +845,7 @@ class Actor:
         """Making an object of a kind, under a new name or one of the path TO."""
         item = self.made(kind)
         umask: Fact = (UMASK, self.family)
+        labelled = self.labelled(directory, self.all.views[self.view].dominates)
         ways: List[Tuple[List[Fact], int]] = [([], NEW_MODE)]
         if umask in self.all.facts:
             ways.append(([umask], OPEN_MODE))
@@ -837,7 +855,7 @@ class Actor:
             makes += self.open_facts(item) if kind is Kind.FILE else []
             makes += [(AT, directory, name, item)] if name is not None else []
             makes += [(FREE, item, each) for each in self.all.problem.names] if kind is Kind.DIRECTORY else []
-            needs = [*self.written(directory), *more, *([(FREE, directory, name)] if name is not None else [])]
+            needs = [*self.written(directory), *labelled, *more, *([(FREE, directory, name)] if name is not None else [])]
             yield self.step((call, directory, item, mode, name), needs, makes)
 
     def freeing(self, directory: int, name: bytes, item: int) -> Iterator[Step]:
@@ -871,12 +889,24 @@ class Actor:
         other = item != directory or len(self.all.cast.items[item]) > 1
         return other and any(one.dominates(other) for one in self.all.values[LABEL, item] for other in labels)
 
+    def fitting(self, item: int, directory: int) -> List[Fact]:
+        """The fact that the label of an object dominates that of a directory, where some of their labels do not."""
+        labels = self.all.values[LABEL, directory]
+        all_fit = all(one.dominates(other) for one in self.all.values[LABEL, item] for other in labels)
+        return [] if all_fit else [self.all.need((FITS, item, directory))]
+
+    def labelled(self, item: int, fits: Callable[[Label], bool]) -> List[Fact]:
+        """The fact that the label of an object is one that fits, where some of its labels do not."""
+        labels = self.all.values[LABEL, item]
+        fitting = frozenset(filter(fits, labels))
+        return [] if len(fitting) == len(labels) else [self.all.need((SOME, LABEL, item, fitting))]
+
     def linking(self, item: int, directory: int) -> Iterator[Step]:
         """Linking an object into a directory."""
         names, moved = self.all.taken_names(directory, item), self.all.has_left("free", self.family) and self.all.is_moved(item, directory)
         if not names and not moved:
             return
-        needs = [self.got(item), *self.marked(item), *self.written(directory)]
+        needs = [self.got(item), *self.marked(item), *self.written(directory), *self.fitting(item, directory)]
         if moved:
             yield self.step(("link", item, directory, None), needs, [(ENTRY, directory, item)])
         for name in names:
@@ -892,7 +922,7 @@ class Actor:
         for old in olds:
             if old not in self.entered or not self.can(old, MARK, WRITE):
                 continue
-            needs = [*self.written(old), (ENTRY, old, item), *self.marked(item), *self.written(directory)]
+            needs = [*self.written(old), (ENTRY, old, item), *self.marked(item), *self.written(directory), *self.fitting(item, directory)]
             if self.kinds[item] is Kind.DIRECTORY and old != directory and moved:
                 yield self.step(("rename", old, item, directory, None), needs, [(ENTRY, directory, item)])
             for name in names:

@@ -28,6 +28,7 @@ IN = "in"            # family, view, directory: it may be searched
 GOT = "got"          # family, view, object: a path leads there
 CAN = "can"          # view, object, right
 SOME = "some"        # kind of attribute, object, values: it has one of these values
+FITS = "fits"        # object, directory: the label of the object dominates that of the directory
 DONE = "done"        # a step was made that gives credentials
 ON_PATH = "on path"  # count, directory: the first names of the path TO lead there
 GOAL: Fact = ("goal",)

@@ -1,46 +1,46 @@
 """Leaves out of a problem what no script of so many calls has to do with."""
 import dataclasses
-import itertools
+import random
 from collections import defaultdict
 from typing import Any, DefaultDict, Dict, Iterable, Iterator, List, Sequence, Set, Tuple
 
 from labask.kernel.state import Number
 from labask.search.costs import Task
-from labask.search.facts import (AT, CAN, CAPS, CWD, ENTRY, FREE, GOT, GROUP, HEARD, IN, LABEL, MODE, ON_PATH, OPENED, OWNER, SOME,
-                                 TAINT, Fact, Step)
+from labask.search.facts import (AT, CAN, CAPS, CWD, ENTRY, FITS, FREE, GOT, GROUP, HEARD, IN, LABEL, MODE, ON_PATH, OPENED, OWNER,
+                                 SOME, TAINT, Fact, Step)
 from labask.search.problem import MOST_ALIKE, Cast, Choices, Grain, Problem
 from labask.search.wanted import purpose
 
 # The places of objects in facts.
 PLACES: Dict[str, Tuple[int, ...]] = {
     LABEL: (1,), OWNER: (1,), GROUP: (1,), MODE: (1,), CAPS: (1,), ENTRY: (1, 2), AT: (1, 3), FREE: (1,), TAINT: (1,), HEARD: (1,),
-    CWD: (2,), OPENED: (2,), ON_PATH: (2,), IN: (3,), GOT: (3,), CAN: (2,), SOME: (2,),
+    CWD: (2,), OPENED: (2,), ON_PATH: (2,), IN: (3,), GOT: (3,), CAN: (2,), SOME: (2,), FITS: (1, 2),
 }
-STILL_LESS = 0.9  # steps are left out again while fewer than this part of them are kept
+ORDERS = 8  # of the facts, in which the better bound is asked
 
 
 def kept_steps(steps: Iterable[Step], first: Iterable[Fact], bound: int) -> List[Tuple[int, Step]]:
-    """The steps that a script of so many calls can have, each with how many calls there are at least from it on; none without one."""
+    """The steps that a script of so many calls can have, each with how many calls there are at least from it on; none without one.
+
+    The better bound takes longer, so that it is asked of what the simple one leaves. It depends on the order of the facts, so that it
+    is asked several times.
+    """
     given, facts = list(steps), list(first)
-    for lasting in itertools.count():
+    due: List[int] = []
+    for turn in range(ORDERS + 1):
         task = Task(given)
-        start, left = list(dict.fromkeys(task.known(facts))), task.left(task.costs)
+        start, left = sorted(set(task.known(facts))), task.left(task.costs)
         before = task.reach(start, task.costs).steps
         due = [step.cost + min(left[made] for made in makes) for step, makes in zip(given, task.makes)]
-        # the better bound takes longer, so that it is asked of what the first one leaves
-        at_least = through(task, start, bound) if lasting else [one + rest for one, rest in zip(before, due)]
-        kept = [at for at, rest in enumerate(due) if before[at] + rest <= bound and at_least[at] <= bound]
-        if not kept or (lasting and len(kept) > STILL_LESS * len(given)):
+        at_least = [one + rest for one, rest in zip(before, due)]
+        if turn:
+            ordered = random.Random(turn).sample(start, len(start))
+            at_least = [max(both) for both in zip(at_least, task.through(ordered, bound))]
+        kept = [at for at, least in enumerate(at_least) if least <= bound]
+        given, due = [given[at] for at in kept], [due[at] for at in kept]
+        if not given:
             break
-        given = [given[at] for at in kept]
-    return [(due[at], given[at]) for at in kept]
-
-
-def through(task: Task, start: List[int], bound: int) -> List[int]:
-    """How many calls a script has at least that has a step, by the best of some bounds: each depends on the order of the facts."""
-    half = len(start) // 2
-    orders = (start, start[::-1], start[half:] + start[:half])
-    return [max(each) for each in zip(*(task.through(order, bound) for order in orders))]
+    return list(zip(due, given))
 
 
 def items_of(steps: Iterable[Step]) -> Set[int]:
@@ -52,7 +52,7 @@ def items_of(steps: Iterable[Step]) -> Set[int]:
 
 
 def sliced(problem: Problem, cast: Cast, steps: Sequence[Step], choices: Choices) -> Problem:
-    """The problem with the objects and processes alone of which steps are, and with these choices; of objects that are alike it has some."""
+    """The problem with these choices, and with the objects and processes alone of which steps are; of objects that are alike some."""
     state = problem.state.copy()
     families = {step.family for step in steps if step.cost}
     kept = Kept(problem, cast, items_of(steps)).numbers()
