@@ -628,7 +628,7 @@ class Actor:
         """A change of credentials."""
         mine, new = self.credentials, self.credentials._replace(**values)
         known = Caps(0, 0, mine.caps.inheritable) if self.all.rough else mine.caps
-        if new._replace(caps=mine.caps) == mine and is_less(new.caps, known):
+        if self.is_unchanged(values) and is_less(new.caps, known):
             return
         if self.all.rough:
             number = self.all.version(self.family, self.one, new)
@@ -640,6 +640,11 @@ class Actor:
         else:
             number = self.all.number(new)
         yield self.own_step((*words, number), needs, [(DONE, self.family, self.one, number), (ACTS, self.family, number)])
+
+    def is_unchanged(self, values: Mapping[str, Any]) -> bool:
+        """Whether these values but capability sets are the own ones; roughly, equal ones may be others of one who counts as this one."""
+        own = ((getattr(self.credentials, name), value) for name, value in values.items() if name != "caps")
+        return all(one is other or (one == other and not self.all.rough) for one, other in own)
 
     def becoming(self) -> Iterator[Step]:
         """The changes of credentials without a program."""
@@ -933,7 +938,7 @@ class Actor:
         makes = [(ENTRY, directory, item), (AT, directory, name, item)]
         if self.kinds[item] is Kind.DIRECTORY:
             yield self.step(("rename", old, item, directory, name), [*needs, (FREE, directory, name)], makes)
-        for target in self.all.at[directory, name][:1]:
+        for target in self.all.at[directory, name][:None if self.all.rough else 1]:
             alike = (self.kinds[target] is Kind.DIRECTORY) == (self.kinds[item] is Kind.DIRECTORY)
             if target != item and alike and self.all.is_replaced(target) and self.can(target, MARK):
                 more = [(AT, directory, name, target), *self.marked(target)]
