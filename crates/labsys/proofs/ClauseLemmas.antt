@@ -28,19 +28,17 @@ use Rattle.io_ends.specs.Ends.{sink_view}
 use Rattle.lab_engine.specs.Playing.{Ends, Sends, Writes, faults_of}
 use Rattle.labsys.specs.Playing.{Besides, CommandDid}
 use Rattle.lab_engine.specs.Reading.{left_of}
-use Rattle.lab_engine.specs.Viewing.{session_alone, unless_whole, view_text}
+use Rattle.lab_engine.specs.Viewing.{unless_whole, view_text}
 use Rattle.lab_text.specs.Text.{parse_label}
-use Rattle.kern_model.specs.Isolation.{up_to}
 use Rattle.world_text.specs.Written.{text_of_world}
 use Rattle.lab_engine.specs.UpgradeInput.{UpgradeInput, upgrade_of}
-use Rattle.lab_engine.specs.Upgrading.{UpgradedTo}
 use Rattle.lab_engine.proofs.UpgradeLaws.{upgraded}
 use Rattle.labsys.specs.Upgrading.{WorldReadsBack, order_of_upgrade, upgrade_text}
 use Rattle.labsys.specs.Viewing.{text_of_view, viewed_text}
 use Rattle.labsys.specs.Lineage.{AnsweredYes, PrintedByAny}
 use Rattle.labsys.specs.Promises.{Plays, Upgrades, Views}
 use Rattle.labsys.specs.Readable.{InputReadable}
-use Rattle.labsys.specs.Clauses.{status_of, HasAllCalls, OnWhole, PlayedTaken, Reports, reports, if_used, reports_used, Moved, run_of, WhereReported, WhereAccepted, TakesAtMost, Covered, RepliesFirst, Printed, Dropped, Written, Isolated, IsolatedWhole, SameBelow, TwoInputs, TwoWhole}
+use Rattle.labsys.specs.Clauses.{status_of, HasAllCalls, OnWhole, PlayedTaken, Reports, reports, if_used, reports_used, Moved, WhereReported, WhereAccepted, TakesAtMost, Covered, RepliesFirst, Printed, Dropped, Written, Isolated, IsolatedWhole, SameBelow, TwoInputs, TwoWhole}
 use Rattle.lab_engine.proofs.Sending.{in_order, out_of-append, out_of-to_out, trail_of-append, trail_of-to_out, prefix_of}
 use Rattle.lab_engine.proofs.ViewLemmas.{view_alone}
 use Rattle.labsys.proofs.Coverage.{records_alone, replies_alone, session_out, session_trail, covered, replies_first, recorded}

@@ -14,7 +14,6 @@ use Rattle.lab_engine.specs.declared.opening.Opened.TheVariants as opened
 use Rattle.lab_engine.specs.declared.opening.OpenedWorld.{OpenedWorld}
 use Rattle.lab_engine.specs.declared.reporting.Tally.{Tally}
 use Rattle.lab_engine.specs.declared.keeping.Kept.{Kept}
-use Rattle.lab_engine.specs.declared.reporting.Report.{Report}
 use Rattle.lab_engine.specs.declared.reporting.Report.TheVariants.{Counted}
 use Rattle.lab_engine.specs.Keeping.{KeepsCalls}
 use Rattle.lab_engine.specs.Input.{Accepted, Input, Script, input_of, no_world}

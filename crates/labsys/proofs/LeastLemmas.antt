@@ -12,7 +12,6 @@ use Rattle.lab_engine.specs.declared.ending.Fault.TheVariants.{NoMemory}
 use Rattle.lab_engine.specs.declared.ending.InputEnd.{InputEnd}
 use Rattle.lab_engine.specs.declared.ending.InputEnd.TheVariants.{Whole}
 use Rattle.lab_engine.specs.declared.keeping.Kept.{Kept}
-use Rattle.lab_engine.specs.declared.reporting.Report.{Report}
 use Rattle.lab_engine.specs.declared.reporting.Report.TheVariants.{Named}
 use Rattle.lab_engine.specs.Counts.{counts, counted_by}
 use Rattle.lab_engine.specs.Input.{Accepted, Script}

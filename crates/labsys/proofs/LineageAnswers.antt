@@ -1,6 +1,6 @@
 -- What `lineage` says of a trail.
 use Rattle.std.proofs.Common.{◌≡◌, ◌⊎◌, inl, inr, ℕ, Bool, true, false, cond, nat_lt, List, length, refl, sym, ◌∙◌, ap, subst}
-use Rattle.std.specs.Prelude.{Option, Some, Result, Ok, Err}
+use Rattle.std.specs.Prelude.{Option, Result, Ok, Err}
 use Rattle.kern_model.specs.declared.limits.TheConstants.{MAX_INPUT}
 use Rattle.aud_red.specs.declared.lineage.Lineage.{Lineage as Answer}
 use Rattle.aud_red.specs.declared.lineage.Lineage.TheVariants.{Yes, No}
@@ -14,7 +14,6 @@ use Rattle.aud_red.proofs.TrailLemmas.{trail_is}
 use Rattle.lab_engine.specs.declared.ending.Fault.{Fault}
 use Rattle.lab_engine.specs.declared.ending.InputEnd.{InputEnd}
 use Rattle.lab_engine.specs.declared.ending.InputEnd.TheVariants.{TooMuch}
-use Rattle.lab_engine.specs.Order.{out_of}
 use Rattle.lab_engine.specs.Playing.{Ends}
 use Rattle.lab_engine.proofs.Sending.{out_of-to_out}
 use Rattle.labsys.specs.declared.command.Command.TheVariants.{Lineage}
@@ -23,7 +22,7 @@ use Rattle.labsys.specs.declared.status.Status.TheVariants.{Done}
 use Rattle.labsys.specs.Clauses.{reports, status_of}
 use Rattle.labsys.specs.declared.trails.ReadTrail.{ReadTrail}
 use Rattle.labsys.specs.declared.trails.ReadTrail.TheVariants as read_is
-use Rattle.labsys.specs.Commands.{due, ends_with}
+use Rattle.labsys.specs.Commands.{ends_with}
 use Rattle.labsys.specs.LineageText.{SaysLineage, SaysNo, SaysYes, ending_of_lineage, lineage_text, line_for, text_of_lineage}
 use Rattle.labsys.specs.Playing.{CommandDid}
 use Rattle.labsys.specs.Promises.{ChecksLineage}

@@ -1,6 +1,6 @@
 -- What `least` promises: the world that it writes gets the same replies.
 use Rattle.std.proofs.Common.{◌≡◌, ℕ, ◌+◌, ◌≤◌, ◌==◌, not, Bool, true, false, cond, List, [], ◌∷◌, ◌++◌, length, map, refl, sym, ◌∙◌, ap, subst, arith, append_assoc}
-use Rattle.std.specs.Prelude.{Option, Some, Result, Ok, IfOk, codes}
+use Rattle.std.specs.Prelude.{Option, Result, Ok, IfOk, codes}
 use Rattle.std.specs.List.{filter, join_with_byte, list_all, onto_first}
 use Rattle.std.proofs.lemmas.Bool.{and_from, and_parts, eqb-true}
 use Rattle.std.proofs.lemmas.List.{append-nil, length-append}

@@ -12,7 +12,6 @@ use Rattle.lab_engine.specs.Playing.{Ends}
 use Rattle.lab_engine.specs.Reading.{left_of}
 use Rattle.lab_engine.specs.Session.{Session, bytes_of, numbered_recs, replies_of, session_of, tail_text}
 use Rattle.sched_engine.specs.declared.schedule.Schedule.{Schedule}
-use Rattle.labsys.specs.declared.command.Command.{Command}
 use Rattle.labsys.specs.declared.command.Command.TheVariants.{Sched}
 use Rattle.labsys.specs.declared.status.Status.{Status}
 use Rattle.labsys.specs.Clauses.{OnWhole, Reports, WhereReported, Covered, RepliesFirst, Printed, Dropped, reports, status_of}

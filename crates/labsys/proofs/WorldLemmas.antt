@@ -1,10 +1,10 @@
 -- What a command did with an accepted world, and that it is what is due of the whole input.
-use Rattle.std.proofs.Common.{◌≡◌, ◌⊎◌, inl, inr, ℕ, ◌+◌, ◌≤◌, ◌^◌, true, List, [], ◌++◌, length, refl, sym, ◌∙◌, ap, subst, append_assoc, arith}
+use Rattle.std.proofs.Common.{◌≡◌, ◌⊎◌, inl, inr, ℕ, true, List, [], ◌++◌, sym, ◌∙◌, ap, subst, append_assoc, arith}
 use Rattle.std.proofs.KnownBytes.{Appends-nil, Consumes-trans}
 use Rattle.std.proofs.lemmas.List.{length-append}
 use Rattle.std.proofs.lemmas.Result.{IfOk-weaker}
 use Rattle.std.specs.Prelude.{Option, None, Some, Result, Ok, Err, IsErrAnd, IfOk}
-use Rattle.std.specs.Io.KnownBytes.{Consumes, IsAtEnd}
+use Rattle.std.specs.Io.KnownBytes.{IsAtEnd}
 use Rattle.io_ends.specs.LinesState.{LinesState, may_take}
 use Rattle.io_ends.specs.Ends.{SinkView}
 use Rattle.lab_engine.specs.declared.ending.Fault.{Fault}
@@ -15,27 +15,24 @@ use Rattle.lab_engine.specs.declared.opening.Opened.{Opened}
 use Rattle.lab_engine.specs.declared.opening.Opened.TheVariants as opened
 use Rattle.lab_engine.specs.declared.opening.OpenedWorld.{OpenedWorld}
 use Rattle.lab_engine.specs.Counts.{Counts, counts, counted_by}
-use Rattle.lab_engine.specs.Input.{Accepted, Input, input_in, input_of, no_world}
-use Rattle.lab_engine.specs.LeastInput.{least_of}
+use Rattle.lab_engine.specs.Input.{Accepted, Input, input_in, input_of}
 use Rattle.lab_engine.specs.Opening.{EndsInput, OpensInput, OpensWorld}
 use Rattle.lab_engine.specs.Order.{Sent, calls_by, order_of_calls, out_of, to_out, trail_of}
 use Rattle.lab_engine.specs.Playing.{Ends, ends, Sends, SendsAll, StopsBy, Writes}
 use Rattle.lab_engine.specs.Reading.{least_at, left_of, script_at}
 use Rattle.lab_engine.specs.Texts.{last_text}
-use Rattle.lab_engine.specs.UpgradeInput.{UpgradeInput, upgrade_of}
+use Rattle.lab_engine.specs.UpgradeInput.{UpgradeInput}
 use Rattle.lab_engine.specs.Upgrading.{ReadsBack}
 use Rattle.lab_engine.proofs.Sending.{in_order, not_a_read, passes_on, prefix_nothing}
-use Rattle.sched_engine.specs.Reading.{schedule_at}
 use Rattle.world_text.specs.declared.format.Format.{Format}
 use Rattle.labsys.specs.declared.command.Command.{Command}
 use Rattle.labsys.specs.declared.command.Command.TheVariants.{Play, Sched, Check, Gen, Drill, View, Upgrade, Least, Select, Lineage}
 use Rattle.labsys.specs.Clauses.{TakesAtMost}
 use Rattle.labsys.specs.Commands.{Due, due, due_of_check, due_of_least, due_of_play, due_of_sched, due_of_upgrade, due_of_view, ends_with}
 use Rattle.labsys.specs.Least.{NarrowedReadsBack, least_world, needed_by}
-use Rattle.labsys.specs.Playing.{Besides, BesidesLeft, CommandDid, DoesWorld, IsOpened, WritesLeft, due_left, format_of, input_left, least_left, reads_input, upgrade_left}
-use Rattle.labsys.specs.Readable.{InputReadable, ProgramsReadable}
-use Rattle.labsys.specs.Scheduling.{ProgramInput, with_schedule, programs_of}
-use Rattle.labsys.specs.Upgrading.{WorldReadsBack}
+use Rattle.labsys.specs.Playing.{Besides, BesidesLeft, CommandDid, DoesWorld, IsOpened, WritesLeft, due_left, format_of, input_left, reads_input}
+use Rattle.labsys.specs.Readable.{ProgramsReadable}
+use Rattle.labsys.specs.Scheduling.{ProgramInput}
 use Rattle.labsys.proofs.AcceptedLemmas.{accepted_in}
 use Rattle.labsys.proofs.InputLemmas.{due_without_world, no_calls}
 use Rattle.labsys.proofs.ProgramInputs.{no_programs, programs_left}

@@ -13,7 +13,8 @@ use Rattle.lab_engine.specs.Texts.{last_text}
 unfoldable pub ok_text : (objects procs calls : ℕ) → List ℕ
 ok_text objects procs calls = line_text (codes "ok" ∷ decimal objects ∷ decimal procs ∷ decimal calls ∷ []) ++ 10 ∷ []
 
--- what is written of a world, of how many calls its script has and of how the input ends: where a line is refused or there is too much, that alone
+-- what is written of a world, of how many calls its script has and of how the input ends: where a line is refused or
+-- there is too much, that alone
 abbrev pub checked_text : World → ℕ → InputEnd → List ℕ
 checked_text w calls Whole = ok_text (length w.objects) (length w.procs) calls
 checked_text w calls (Refused n part why) = last_text 0 (Refused n part why)

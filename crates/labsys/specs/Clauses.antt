@@ -42,9 +42,11 @@ if_used false bytes = Some []
 
 -- the same of the three ends, by which of them a command uses
 abbrev pub reports_used : Command → Reports → Reports
-reports_used command r = record { left = if_used (reads_source command) r.left; out = r.out; trail = if_used (writes_trail command) r.trail }
+reports_used command r =
+    record { left = if_used (reads_source command) r.left; out = r.out; trail = if_used (writes_trail command) r.trail }
 
--- the first bytes of the text were taken, these were appended to what the output and the trail held, all three report it, and P holds of the text and of what was appended
+-- the first bytes of the text were taken, these were appended to what the output and the trail held, all three report
+-- it, and P holds of the text and of what was appended
 pub record Moved (text before above : List ℕ) (now : Reports) (P : List ℕ → List ℕ → List ℕ → Type 0) : Type 0 where
   pub taken : List ℕ
   pub rest : List ℕ
@@ -56,23 +58,28 @@ pub record Moved (text before above : List ℕ) (now : Reports) (P : List ℕ �
   pub trail_is : now.trail ≡ Some (above ++ trail)
   pub holds : P text out trail
 
--- where all three ends reported their bytes at entry they do so at exit, and P holds of the text that the source had and of what the output and the trail got
+-- where all three ends reported their bytes at entry they do so at exit, and P holds of the text that the source had
+-- and of what the output and the trail got
 abbrev pub WhereReported : Reports → Reports → (List ℕ → List ℕ → List ℕ → Type 0) → Type 0
-WhereReported old now P = (text before above : List ℕ) → old.left ≡ Some text → old.out ≡ Some before → old.trail ≡ Some above → Moved text before above now P
+WhereReported old now P = (text before above : List ℕ) → old.left ≡ Some text → old.out ≡ Some before
+    → old.trail ≡ Some above → Moved text before above now P
 
 -- the world of a text was accepted, and P holds of it and of its script
 abbrev pub WhereAccepted : List ℕ → (Accepted → Script → Type 0) → Type 0
 WhereAccepted text P = (a : Accepted) → (input_of text).accepted ≡ Some a → P a (input_of text).script
 
--- the output has the replies to all calls, and the trail its head and their records; without an accepted world both have nothing
+-- the output has the replies to all calls, and the trail its head and their records; without an accepted world both
+-- have nothing
 abbrev pub HasAllCalls : Option Accepted → Script → List ℕ → List ℕ → Type 0
 HasAllCalls None script out trail = (out ≡ []) × (trail ≡ [])
 HasAllCalls (Some a) script out trail =
-    (out ≡ replies_of (bytes_of (session_of a script))) × (trail ≡ head_text (session_of a script) ++ records_of (bytes_of (session_of a script)))
+    (out ≡ replies_of (bytes_of (session_of a script)))
+        × (trail ≡ head_text (session_of a script) ++ records_of (bytes_of (session_of a script)))
 
 -- the same of the world and the calls in the bytes that were taken of a text
 abbrev pub PlayedTaken : List ℕ → Option (List ℕ) → List ℕ → List ℕ → Type 0
-PlayedTaken text left out trail = (taken rest : List ℕ) → text ≡ taken ++ rest → left ≡ Some rest → HasAllCalls (input_of taken).accepted (input_of taken).script out trail
+PlayedTaken text left out trail = (taken rest : List ℕ) → text ≡ taken ++ rest → left ≡ Some rest
+    → HasAllCalls (input_of taken).accepted (input_of taken).script out trail
 
 -- at most so many bytes were taken
 pub record TakesAtMost (most : ℕ) (left now : Option (List ℕ)) : Type 0 where
@@ -109,7 +116,8 @@ Covered s out trail = (m : ℕ) → m + 1 ≤ length (bytes_of s) → IsPrefix (
 
 -- where the trail goes on after the records of the first calls, the output has their replies
 abbrev pub RepliesFirst : Session → List ℕ → List ℕ → Type 0
-RepliesFirst s out trail = (m : ℕ) → m ≤ length (bytes_of s) → length (head_text s ++ records_of (take m (bytes_of s))) < length trail
+RepliesFirst s out trail =
+    (m : ℕ) → m ≤ length (bytes_of s) → length (head_text s ++ records_of (take m (bytes_of s))) < length trail
     → IsPrefix (replies_of (take m (bytes_of s))) out
 
 -- how many whole replies the output has
@@ -132,14 +140,17 @@ trail_with s recs = header_text s.policy s.bound ++ flat_map (λ (r : ℕ × Rec
 -- the output in which each end line has the capability sets that these records give
 abbrev pub out_with : Session → List Rec → List ℕ
 out_with s recs = replies_of (bytes_of s)
-    ++ (flat_map (λ who. end_text s.policy who (label_in s.last_state who) (Some (caps_of s.bound recs who))) (finite.keys s.last_state.procs) ++ last_text (length s.calls) s.ending)
+    ++ (flat_map (λ who. end_text s.policy who (label_in s.last_state who) (Some (caps_of s.bound recs who)))
+        (finite.keys s.last_state.procs) ++ last_text (length s.calls) s.ending)
 
--- each end line has the capability sets that the records give, and where the output goes on after the replies the trail has them all
+-- each end line has the capability sets that the records give, and where the output goes on after the replies the trail
+-- has them all
 pub record Printed (s : Session) (out trail : List ℕ) : Type 0 where
   pub by_records : IsPrefix out (out_with s (recs_in (numbered_recs s)))
   pub recorded : length (replies_of (bytes_of s)) < length out → trail ≡ trail_with s (numbered_recs s)
 
--- the trail has a prefix of the records; in all of them `cap_set_proc` makes nothing permitted that was not, and permitted sets grow by exec alone
+-- the trail has a prefix of the records; in all of them `cap_set_proc` makes nothing permitted that was not, and
+-- permitted sets grow by exec alone
 pub record Dropped (s : Session) (trail : List ℕ) : Type 0 where
   pub begins : IsPrefix trail (trail_with s (numbered_recs s))
   pub drops : OnlyDrops s.bound (recs_in (numbered_recs s))
@@ -151,16 +162,18 @@ pub record Dropped (s : Session) (trail : List ℕ) : Type 0 where
 abbrev pub run_of : Accepted → Script → List CallRecord
 run_of a script = run (boot a.world) script.items
 
--- up to the first call with a record that crosses l, the written replies to Low tags are a prefix of those of the run of the Low items
--- on the part of the world alone
+-- up to the first call with a record that crosses l, the written replies to Low tags are a prefix of those of the run
+-- of the Low items on the part of the world alone
 pub record Isolated (l : Label) (a : Accepted) (script : Script) (out : List ℕ) : Type 0 where
   pub written : Written (bytes_of (session_of a script)) out
-  pub reported : (m : ℕ) → m ≤ written.count → m ≤ length (up_to l (run_of a script)) → IsPrefix (answers l (take m (run_of a script))) (alone l a.world script.items)
+  pub reported : (m : ℕ) → m ≤ written.count → m ≤ length (up_to l (run_of a script))
+      → IsPrefix (answers l (take m (run_of a script))) (alone l a.world script.items)
 
 -- the output has all replies, and where no call crosses l those to Low tags are all of that run
 pub record IsolatedWhole (l : Label) (a : Accepted) (script : Script) (out : List ℕ) : Type 0 where
   pub written : IsPrefix (replies_of (bytes_of (session_of a script))) out
-  pub reported : up_to l (run_of a script) ≡ run_of a script → answers l (run_of a script) ≡ alone l a.world script.items
+  pub reported : up_to l (run_of a script) ≡ run_of a script
+      → answers l (run_of a script) ≡ alone l a.world script.items
 
 -- two inputs that look the same to l: one policy, one part of the worlds, one part of the scripts
 pub record SameBelow (l : Label) (a : Accepted) (script : Script) (b : Accepted) (script' : Script) : Type 0 where
@@ -168,13 +181,18 @@ pub record SameBelow (l : Label) (a : Accepted) (script : Script) (b : Accepted)
   pub world : part l (boot a.world) ≡ part l (boot b.world)
   pub items : part_script l script.items ≡ part_script l script'.items
 
--- of the written replies to Low tags and those of the other run, each up to its first crossing, one list begins with the other
-pub record TwoInputs (l : Label) (a : Accepted) (script : Script) (b : Accepted) (script' : Script) (out : List ℕ) : Type 0 where
+-- of the written replies to Low tags and those of the other run, each up to its first crossing, one list begins with
+-- the other
+pub record TwoInputs (l : Label) (a : Accepted) (script : Script) (b : Accepted) (script' : Script)
+    (out : List ℕ) : Type 0 where
   pub written : Written (bytes_of (session_of a script)) out
-  pub agree : (m n : ℕ) → m ≤ written.count → m ≤ length (up_to l (run_of a script)) → n ≤ length (up_to l (run_of b script'))
+  pub agree : (m n : ℕ) → m ≤ written.count → m ≤ length (up_to l (run_of a script))
+      → n ≤ length (up_to l (run_of b script'))
       → Agree (answers l (take m (run_of a script))) (answers l (take n (run_of b script')))
 
 -- the output has all replies, and where neither run crosses l those to Low tags are the other run's
-pub record TwoWhole (l : Label) (a : Accepted) (script : Script) (b : Accepted) (script' : Script) (out : List ℕ) : Type 0 where
+pub record TwoWhole (l : Label) (a : Accepted) (script : Script) (b : Accepted) (script' : Script)
+    (out : List ℕ) : Type 0 where
   pub written : IsPrefix (replies_of (bytes_of (session_of a script))) out
-  pub equal : up_to l (run_of a script) ≡ run_of a script → up_to l (run_of b script') ≡ run_of b script' → answers l (run_of a script) ≡ answers l (run_of b script')
+  pub equal : up_to l (run_of a script) ≡ run_of a script → up_to l (run_of b script') ≡ run_of b script'
+      → answers l (run_of a script) ≡ answers l (run_of b script')

@@ -1,5 +1,5 @@
 -- The commands: which words name one, and what each is to write of the bytes of a source.
-use Rattle.std.specs.Prelude.{ℕ, ◌≤◌, Bool, true, false, cond, List, [], ◌∷◌, Option, Some, None, codes, string_bytes}
+use Rattle.std.specs.Prelude.{ℕ, ◌≤◌, Bool, true, false, cond, List, [], ◌∷◌, Option, Some, None, codes}
 use Rattle.std.specs.Option.{option_map}
 use Rattle.std.specs.declared.string.String.{String}
 use Rattle.std.specs.declared.alloc.Global.{Global}
@@ -9,7 +9,6 @@ use Rattle.gen_world.specs.declared.generator.TheConstants.{MAX_LINES}
 use Rattle.gen_world.specs.Text.{gen_text}
 use Rattle.lab_text.specs.Names.{same_bytes}
 use Rattle.lab_usage.specs.Words.{Given, given_words}
-use Rattle.aud_red.specs.declared.trail.Trail.{Trail}
 use Rattle.labsys.specs.declared.command.Command.{Command}
 use Rattle.labsys.specs.declared.command.Command.TheVariants.{Play, Sched, Check, Gen, Drill, View, Upgrade, Least, Select, Lineage}
 use Rattle.lab_engine.specs.declared.ending.InputEnd.{InputEnd}
@@ -118,7 +117,9 @@ due_of_check i = record { order = order_of_check i; status = ends_with i.script.
 
 -- what is due of an input that is viewed from the label of a word
 abbrev pub due_of_view : List ℕ → Input → Due
-due_of_view word i = record { order = to_out (text_of_view word i.accepted i.script); status = ends_with (ending_of_view word i.accepted i.script.ending) }
+due_of_view word i = record
+    { order = to_out (text_of_view word i.accepted i.script)
+    ; status = ends_with (ending_of_view word i.accepted i.script.ending) }
 
 -- what is due of an input that is upgraded
 abbrev pub due_of_upgrade : UpgradeInput → Due

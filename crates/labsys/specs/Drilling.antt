@@ -15,11 +15,13 @@ count_text word n = after_spaces (word ∷ decimal n ∷ [])
 
 -- what was counted of calls
 abbrev pub counts_text : Tally → List ℕ
-counts_text t = count_text (codes "ok") t.ok ++ count_text (codes "denied") t.denied ++ count_text (codes "refused") t.refused ++ count_text (codes "exercised") t.exercised
+counts_text t = count_text (codes "ok") t.ok ++ count_text (codes "denied") t.denied
+    ++ count_text (codes "refused") t.refused ++ count_text (codes "exercised") t.exercised
 
 -- the line `drill N ok A denied B refused C exercised D live E`
 unfoldable pub tally_text : (lines : ℕ) → Tally → (living : ℕ) → List ℕ
-tally_text lines t living = codes "drill" ++ after_spaces (decimal lines ∷ []) ++ counts_text t ++ count_text (codes "live") living ++ 10 ∷ []
+tally_text lines t living =
+    codes "drill" ++ after_spaces (decimal lines ∷ []) ++ counts_text t ++ count_text (codes "live") living ++ 10 ∷ []
 
 -- the line of what was played: the tally of its calls, and how many processes live in its last state
 abbrev pub drill_text : ℕ → Session → List ℕ

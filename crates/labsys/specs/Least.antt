@@ -40,7 +40,8 @@ least_world a needed = record a { world = narrowed (unneeded a.world needed) a.w
 abbrev pub least_text : Accepted → CapSet → List ℕ
 least_text a needed = unneeded_text (unneeded a.world needed) ++ text_of_world (least_world a needed)
 
--- what is written of a world, of the capabilities that its script needs and of how the input ends: where a line is refused or there is too much, that alone
+-- what is written of a world, of the capabilities that its script needs and of how the input ends: where a line is
+-- refused or there is too much, that alone
 abbrev pub needs_text : Accepted → CapSet → InputEnd → List ℕ
 needs_text a needed Whole = least_text a needed
 needs_text a needed (Refused n part why) = last_text 0 (Refused n part why)
@@ -62,11 +63,13 @@ order_of_least i = to_out (text_of_least i.accepted i.script)
 
 -- where an input has a world and ends whole, the text of the narrowed world is read as that world
 abbrev pub NarrowedReadsBack : Input → InputEnd → Type 0
-NarrowedReadsBack i ending = ending ≡ Whole → (a : Accepted) → i.accepted ≡ Some a → ReadsBack (least_world a (needed_by a i.script))
+NarrowedReadsBack i ending =
+    ending ≡ Whole → (a : Accepted) → i.accepted ≡ Some a → ReadsBack (least_world a (needed_by a i.script))
 
--- an input was narrowed: the output is the line of the capabilities that its script did not need, and the text of its world without them; where neither a line of
--- that text nor the output with the script is too long, the output and all that stands behind the line `script` are the narrowed world with the same script, and the
--- call table gives the same replies
+-- an input was narrowed: the output is the line of the capabilities that its script did not need, and the text of its
+-- world without them; where neither a line of that text nor the output with the script is too long, the output and all
+-- that stands behind the line `script` are the narrowed world with the same script, and the call table gives the same
+-- replies
 pub record NarrowedTo (text out : List ℕ) : Type 0 where
   pub world : Accepted
   pub items : List ScriptItem
@@ -77,6 +80,9 @@ pub record NarrowedTo (text out : List ℕ) : Type 0 where
   pub reads : read_text Two text ≡ AcceptedWorld world number (pieces 10 behind)
   pub input_is : input_of text ≡ record { accepted = Some world; script = script items Whole }
   pub out_is : out ≡ least_text world (needed_by world (script items Whole))
-  pub same : HasShortLines (least_world world (needed_by world (script items Whole))) → length (out ++ behind) ≤ MAX_INPUT
-      → input_of (out ++ behind) ≡ record { accepted = Some (least_world world (needed_by world (script items Whole))); script = script items Whole }
-  pub same_replies : replies (boot (least_world world (needed_by world (script items Whole))).world) items ≡ replies (boot world.world) items
+  pub same : HasShortLines (least_world world (needed_by world (script items Whole)))
+      → length (out ++ behind) ≤ MAX_INPUT
+      → input_of (out ++ behind) ≡ record
+          { accepted = Some (least_world world (needed_by world (script items Whole))); script = script items Whole }
+  pub same_replies : replies (boot (least_world world (needed_by world (script items Whole))).world) items
+      ≡ replies (boot world.world) items

@@ -19,16 +19,19 @@ pub record IsTrailOf (s : Session) (recs : List (ℕ × Rec)) (trail : List ℕ)
   pub have_lines : AllByRecursion (HasLine s.policy) recs
   pub trail_is : trail ≡ trail_with s recs
 
--- each end line has the capability sets that the records give; in these records `cap_set_proc` makes nothing permitted that was not, and permitted sets grow by exec alone
+-- each end line has the capability sets that the records give; in these records `cap_set_proc` makes nothing permitted
+-- that was not, and permitted sets grow by exec alone
 pub record GivenBy (s : Session) (recs : List Rec) (out : List ℕ) : Type 0 where
   pub printed : IsPrefix out (out_with s recs)
   pub drops : OnlyDrops s.bound recs
   pub grows : GrowsByExec s.bound recs
 
--- where the output goes on after the replies, the trail is that of the run's records, and of whatever records it is, they give the capability sets of the end lines
+-- where the output goes on after the replies, the trail is that of the run's records, and of whatever records it is,
+-- they give the capability sets of the end lines
 pub record PrintedByAny (s : Session) (out trail : List ℕ) : Type 0 where
   pub own : length (replies_of (bytes_of s)) < length out → IsTrailOf s (numbered_recs s) trail
-  pub by_any : length (replies_of (bytes_of s)) < length out → (recs : List (ℕ × Rec)) → IsTrailOf s recs trail → GivenBy s (recs_in recs) out
+  pub by_any : length (replies_of (bytes_of s)) < length out → (recs : List (ℕ × Rec)) → IsTrailOf s recs trail
+      → GivenBy s (recs_in recs) out
 
 -- ---- what `lineage` has to write
 
@@ -36,7 +39,8 @@ pub record PrintedByAny (s : Session) (out trail : List ℕ) : Type 0 where
 abbrev pub yes_text : ℕ → List ℕ
 yes_text count = line_text (codes "yes" ∷ decimal count ∷ []) ++ 10 ∷ []
 
--- where its source has the bytes of the trail, `lineage` has to write `yes` and the number of the records of the run, and its status is 0
+-- where its source has the bytes of the trail, `lineage` has to write `yes` and the number of the records of the run,
+-- and its status is 0
 pub record AnsweredYes (s : Session) (trail : List ℕ) : Type 0 where
   pub line : (due Lineage trail).order ≡ to_out (yes_text (length (numbered_recs s)))
   pub status : (due Lineage trail).status ≡ Done

@@ -16,8 +16,8 @@ use Rattle.lab_engine.specs.Texts.{last_text}
 use Rattle.labsys.specs.declared.trails.ReadTrail.{ReadTrail}
 use Rattle.labsys.specs.declared.trails.ReadTrail.TheVariants as read_is
 
--- the words of an answer, for a trail with so many lines before its records and so many records: `yes COUNT`, or `no LINE WORD` with the line of the first
--- record that may not come where it stands
+-- the words of an answer, for a trail with so many lines before its records and so many records: `yes COUNT`, or
+-- `no LINE WORD` with the line of the first record that may not come where it stands
 abbrev pub lineage_words : (head count : ℕ) → Lineage → List (List ℕ)
 lineage_words head count Yes = codes "yes" ∷ decimal count ∷ []
 lineage_words head count (No at why) = codes "no" ∷ decimal (head + at + 1) ∷ why_word why ∷ []
@@ -50,7 +50,8 @@ pub record SaysYes (t : Trail) (out : List ℕ) : Type 0 where
   pub line : out ≡ line_for t Yes
   pub follow : AllFollow t.bound (recs_of t)
 
--- `no` is written of a trail with the line of a record and a reason, and the record is the first that may not come after those before it, for this reason
+-- `no` is written of a trail with the line of a record and a reason, and the record is the first that may not come
+-- after those before it, for this reason
 pub record SaysNo (t : Trail) (out : List ℕ) : Type 0 where
   pub at : ℕ
   pub why : Why

@@ -21,8 +21,10 @@ abbrev pub OnAccepted : Reports → Reports → (Accepted → Script → List �
 OnAccepted old now P = WhereReported old now (λ text out trail. WhereAccepted text (λ a script. P a script out trail))
 
 -- the same of two inputs that look the same to a label, of which the first was played and the other is any
-abbrev pub OnTwo : Label → List ℕ → Reports → Reports → (Accepted → Script → Accepted → Script → List ℕ → Type 0) → Type 0
-OnTwo l other old now P = OnAccepted old now (λ a script out trail. WhereAccepted other (λ b script'. SameBelow l a script b script' → P a script b script' out))
+abbrev pub OnTwo : Label → List ℕ → Reports → Reports
+    → (Accepted → Script → Accepted → Script → List ℕ → Type 0) → Type 0
+OnTwo l other old now P = OnAccepted old now
+    (λ a script out trail. WhereAccepted other (λ b script'. SameBelow l a script b script' → P a script b script' out))
 
 -- a run of `play` with this status, by what the three ends reported before it and after it
 pub record Plays (status : Status) (old now : Reports) : Type 0 where
@@ -35,40 +37,52 @@ pub record Plays (status : Status) (old now : Reports) : Type 0 where
   -- Up to the first record that crosses a label, the replies below it are those of the part below it alone.
   pub isolated : (l : Label) → OnAccepted old now (λ a script out trail. Isolated l a script out)
   -- In a whole run that no record crosses they are all of them.
-  pub isolated_whole : (l : Label) → OnWhole status (OnAccepted old now (λ a script out trail. IsolatedWhole l a script out))
+  pub isolated_whole : (l : Label)
+      → OnWhole status (OnAccepted old now (λ a script out trail. IsolatedWhole l a script out))
   -- Inputs that look the same from below get the same replies there, each up to its first crossing.
-  pub two_inputs : (l : Label) (other : List ℕ) → OnTwo l other old now (λ a script b script' out. TwoInputs l a script b script' out)
+  pub two_inputs : (l : Label) (other : List ℕ)
+      → OnTwo l other old now (λ a script b script' out. TwoInputs l a script b script' out)
   -- In whole runs that no record crosses they are equal.
-  pub two_whole : (l : Label) (other : List ℕ) → OnWhole status (OnTwo l other old now (λ a script b script' out. TwoWhole l a script b script' out))
+  pub two_whole : (l : Label) (other : List ℕ)
+      → OnWhole status (OnTwo l other old now (λ a script b script' out. TwoWhole l a script b script' out))
   -- Each end line has the capability sets that the records give, all of which are in the trail then.
   pub printed : OnAccepted old now (λ a script out trail. Printed (session_of a script) out trail)
-  -- The trail is read as these records. Whatever records it is read as, each end line has the capability sets that they give.
+  -- The trail is read as these records. Whatever records it is read as, each end line has the capability sets that they
+  -- give.
   pub printed_by_any : OnAccepted old now (λ a script out trail. PrintedByAny (session_of a script) out trail)
   -- The trail is of records in which permitted sets grow by exec alone.
   pub dropped : OnAccepted old now (λ a script out trail. Dropped (session_of a script) trail)
-  -- Of the trail of a whole run, where it is no longer than an input may be, `lineage` has to write `yes` and the number of the records of the run.
-  pub answered_yes : OnWhole status (OnAccepted old now (λ a script out trail. length trail ≤ MAX_INPUT → AnsweredYes (session_of a script) trail))
+  -- Of the trail of a whole run, where it is no longer than an input may be, `lineage` has to write `yes` and the
+  -- number of the records of the run.
+  pub answered_yes : OnWhole status (OnAccepted old now
+      (λ a script out trail. length trail ≤ MAX_INPUT → AnsweredYes (session_of a script) trail))
 
 -- a run of `view` of a label's word, with this status
 pub record Views (word : List ℕ) (status : Status) (old now : Reports) : Type 0 where
   -- Where no record of the whole run crosses the label, `view` writes what it writes of the part below the label alone.
-  pub view_alone : (l : Label) → status ≡ Done → OnAccepted (reports_used (View word) old) (reports_used (View word) now)
-      (λ a script out trail. parse_label a.policy word ≡ Some l → up_to l (run_of a script) ≡ run_of a script → out ≡ view_text l (session_alone l a script))
+  pub view_alone : (l : Label) → status ≡ Done
+      → OnAccepted (reports_used (View word) old) (reports_used (View word) now)
+          (λ a script out trail. parse_label a.policy word ≡ Some l → up_to l (run_of a script) ≡ run_of a script
+              → out ≡ view_text l (session_alone l a script))
 
 -- a run of `upgrade`, with this status
 pub record Upgrades (status : Status) (old now : Reports) : Type 0 where
-  -- The output is the canonical text of the world, and after it each line behind the line `script`, unchanged. Where no line is too long, nor the output as a
-  -- whole, it is the same input.
-  pub upgraded : status ≡ Done → WhereReported (reports_used Upgrade old) (reports_used Upgrade now) (λ text out trail. UpgradedTo text out)
+  -- The output is the canonical text of the world, and after it each line behind the line `script`, unchanged. Where no
+  -- line is too long, nor the output as a whole, it is the same input.
+  pub upgraded : status ≡ Done
+      → WhereReported (reports_used Upgrade old) (reports_used Upgrade now) (λ text out trail. UpgradedTo text out)
 
 -- a run of `least`, with this status
 pub record Narrows (status : Status) (old now : Reports) : Type 0 where
-  -- The output is the line of the capabilities that the script did not need, and the canonical text of the world without them. Where no line is too long, nor the
-  -- output with all that stands behind the line `script`, these two are an input with that world and the same calls, and each call gets the same reply.
-  pub narrowed : status ≡ Done → WhereReported (reports_used Least old) (reports_used Least now) (λ text out trail. NarrowedTo text out)
+  -- The output is the line of the capabilities that the script did not need, and the canonical text of the world
+  -- without them. Where no line is too long, nor the output with all that stands behind the line `script`, these two
+  -- are an input with that world and the same calls, and each call gets the same reply.
+  pub narrowed : status ≡ Done
+      → WhereReported (reports_used Least old) (reports_used Least now) (λ text out trail. NarrowedTo text out)
 
 -- a run of `lineage`, with this status
 pub record ChecksLineage (status : Status) (old now : Reports) : Type 0 where
-  -- The input is the text of a trail. The output is `yes` and the number of its records, each of which may come after those before it; or it is `no`, with the
-  -- line of the first record that may not, and why.
-  pub answers : status ≡ Done → WhereReported (reports_used Lineage old) (reports_used Lineage now) (λ text out trail. SaysLineage text out)
+  -- The input is the text of a trail. The output is `yes` and the number of its records, each of which may come after
+  -- those before it; or it is `no`, with the line of the first record that may not, and why.
+  pub answers : status ≡ Done
+      → WhereReported (reports_used Lineage old) (reports_used Lineage now) (λ text out trail. SaysLineage text out)

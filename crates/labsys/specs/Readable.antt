@@ -13,7 +13,8 @@ use Rattle.labsys.specs.Scheduling.{HasSchedule, ProgramInput, session_by}
 
 -- either these records are readable, or a prefix of an order was written in which no end line stands
 abbrev pub ReadableOrStopped : PolicyNames → List (ℕ × Rec) → List Sent → Ends → Ends → Type 0
-ReadableOrStopped policy recs order before after = AllByRecursion (IsReadable policy) recs ⊎ SendsPrefix order before after
+ReadableOrStopped policy recs order before after =
+    AllByRecursion (IsReadable policy) recs ⊎ SendsPrefix order before after
 
 -- the same of all records of what was played
 abbrev pub RunReadable : Session → Ends → Ends → Type 0
@@ -29,4 +30,5 @@ InputReadable i before after = (a : Accepted) → i.accepted ≡ Some a → Sess
 
 -- the same where an input has a world and a schedule
 abbrev pub ProgramsReadable : ProgramInput → Ends → Ends → Type 0
-ProgramsReadable i before after = (a : Accepted) (s : Schedule) → i ≡ HasSchedule a s → RunReadable (session_by a s) before after
+ProgramsReadable i before after =
+    (a : Accepted) (s : Schedule) → i ≡ HasSchedule a s → RunReadable (session_by a s) before after

@@ -35,41 +35,52 @@ reports_of e = reports e.source.left e.out.held e.trail.held
 abbrev pub faults_in : RunEnds → Counts
 faults_in e = counts e.source.faults e.out.faults e.trail.faults
 
--- P holds of the text that the source had and of what the output and the trail got, where the ends report their bytes that a command uses
+-- P holds of the text that the source had and of what the output and the trail got, where the ends report their bytes
+-- that a command uses
 abbrev pub WhereUsed : Command → (old now : RunEnds) → (List ℕ → List ℕ → List ℕ → Type 0) → Type 0
-WhereUsed command old now P = WhereReported (reports_used command (reports_of old)) (reports_used command (reports_of now)) P
+WhereUsed command old now P =
+    WhereReported (reports_used command (reports_of old)) (reports_used command (reports_of now)) P
 
 -- a run of the command that the words name, if they name one, with this status
 pub record Runs (words : List (String Global)) (status : Status) (old now : RunEnds) : Type 0 where
   -- With any status but 6, status 1 comes exactly where the words name no command.
   pub usage : status ≢ NoMemory → ((status ≡ Usage) ↔ (command_of words ≡ None))
-  -- The first fault ends the run: one is counted with status 3, 4 or 5, by the end that it reports, and none with another.
+  -- The first fault ends the run: one is counted with status 3, 4 or 5, by the end that it reports, and none with
+  -- another.
   pub counts : faults_in now ≡ counts_after status (faults_in old)
   -- A read fault comes only of a command that reads the source, and a trail fault only of one that writes the trail.
   pub read_fault : IfSome (command_of words) (λ command. status ≡ ReadFault → reads_source command ≡ true)
   pub trail_fault : IfSome (command_of words) (λ command. status ≡ TrailFault → writes_trail command ≡ true)
-  -- At every exit both sinks have received the bytes of a prefix of the one order. An end that the command does not use need not report.
-  pub order : IfSome (command_of words) (λ command. WhereUsed command old now (λ text o t. IsInOrder (due command text).order o t))
+  -- At every exit both sinks have received the bytes of a prefix of the one order. An end that the command does not use
+  -- need not report.
+  pub order : IfSome (command_of words) (λ command. WhereUsed command old now
+      (λ text o t. IsInOrder (due command text).order o t))
   -- With status 0, 2 or 7 they have received all of it.
   pub whole : IfSome (command_of words) (λ command. OnWhole status (WhereUsed command old now
       (λ text o t. (o ≡ out_of (due command text).order) × (t ≡ trail_of (due command text).order))))
-  -- Which of these three it is depends on the source's bytes alone, and of a command that does not read the source not on them.
+  -- Which of these three it is depends on the source's bytes alone, and of a command that does not read the source not
+  -- on them.
   pub ending : IfSome (command_of words) (λ command. OnWhole status
-      ((text : List ℕ) → if_used (reads_source command) old.source.left ≡ Some text → status ≡ (due command text).status))
-  -- What `play` promises besides: records before replies, isolation, the capability sets at the end, and a trail of which `lineage` says `yes`.
+      ((text : List ℕ) → if_used (reads_source command) old.source.left ≡ Some text
+          → status ≡ (due command text).status))
+  -- What `play` promises besides: records before replies, isolation, the capability sets at the end, and a trail of
+  -- which `lineage` says `yes`.
   pub play : command_of words ≡ Some Play → Plays status (reports_of old) (reports_of now)
-  -- What `sched` promises besides: records before replies, isolation of programs that react, the capability sets at the end, and a trail of which
-  -- `lineage` says `yes`.
+  -- What `sched` promises besides: records before replies, isolation of programs that react, the capability sets at the
+  -- end, and a trail of which `lineage` says `yes`.
   pub sched : command_of words ≡ Some Sched → Schedules status (reports_of old) (reports_of now)
   -- What `view` promises besides: it writes what it writes of the part below its label alone.
   pub view : (word : List ℕ) → command_of words ≡ Some (View word) → Views word status (reports_of old) (reports_of now)
   -- What `upgrade` promises besides: the same world and the same script, in the format of today.
   pub upgrade : command_of words ≡ Some Upgrade → Upgrades status (reports_of old) (reports_of now)
-  -- What `least` promises besides: the world without the capabilities that the script did not need gives the same replies to it.
+  -- What `least` promises besides: the world without the capabilities that the script did not need gives the same
+  -- replies to it.
   pub least : command_of words ≡ Some Least → Narrows status (reports_of old) (reports_of now)
-  -- What `lineage` promises besides: each record of the trail may come after those before it, or the first that may not is named.
+  -- What `lineage` promises besides: each record of the trail may come after those before it, or the first that may not
+  -- is named.
   pub lineage : command_of words ≡ Some Lineage → ChecksLineage status (reports_of old) (reports_of now)
   -- A command that reads the source reads it to its end where the input was accepted whole.
-  pub to_the_end : IfSome (command_of words) (λ command. reads_source command ≡ true → status ≡ Done → IsAtEnd now.source.left)
+  pub to_the_end : IfSome (command_of words)
+      (λ command. reads_source command ≡ true → status ≡ Done → IsAtEnd now.source.left)
   -- No more of it is read than the limit and one byte.
   pub few : TakesAtMost (MAX_INPUT + 1) old.source.left now.source.left

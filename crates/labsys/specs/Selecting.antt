@@ -29,7 +29,8 @@ count_selected select recs = length (filter (λ (r : ReadRec). picks select r.re
 
 -- the lines of the records of a trail that are picked, and their number
 unfoldable pub selected_text : Select → Trail → List ℕ
-selected_text select t = flat_map (selected_line t.policy select) t.recs ++ last_text (count_selected select t.recs) Whole
+selected_text select t =
+    flat_map (selected_line t.policy select) t.recs ++ last_text (count_selected select t.recs) Whole
 
 -- ---- the word of a selection
 

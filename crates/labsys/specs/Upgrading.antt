@@ -8,8 +8,8 @@ use Rattle.lab_engine.specs.UpgradeInput.{UpgradeInput, UpgradeScript}
 use Rattle.lab_engine.specs.Upgrading.{ReadsBack}
 use Rattle.lab_engine.specs.Viewing.{unless_whole}
 
--- what is written of an input: the text of its world in the format of today, the lines of its script as they came, and the last line where the input is not
--- whole; without a world it is the last line alone
+-- what is written of an input: the text of its world in the format of today, the lines of its script as they came, and
+-- the last line where the input is not whole; without a world it is the last line alone
 abbrev pub upgrade_text : Option Accepted → UpgradeScript → List ℕ
 upgrade_text None script = last_text 0 script.ending
 upgrade_text (Some a) script = text_of_world a ++ (script.text ++ unless_whole script.ending)

@@ -18,7 +18,8 @@ abbrev pub viewed_ending : Option Label → InputEnd → InputEnd
 viewed_ending None ending = RefusedWord command_word.View line_fault.BadLabel
 viewed_ending (Some l) ending = ending
 
--- what a view of an accepted world and its script writes, by the label that the word denotes; where it denotes none, that refusal alone
+-- what a view of an accepted world and its script writes, by the label that the word denotes; where it denotes none,
+-- that refusal alone
 abbrev pub viewed_text : Option Label → Accepted → Script → List ℕ
 viewed_text None a script = last_text 0 (RefusedWord command_word.View line_fault.BadLabel)
 viewed_text (Some l) a script = view_text l (session_of a script)

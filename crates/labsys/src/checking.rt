@@ -48,8 +48,8 @@ fn report_check<K: Sink>(
     }
 }
 
-/// Reads the script after a world that was accepted, and writes what was found: how many objects, processes and calls there
-/// are, or the line that refuses the input.
+/// Reads the script after a world that was accepted, and writes what was found: how many objects, processes and calls
+/// there are, or the line that refuses the input.
 pub fn check<S: Source, K: Sink>(
     alloc: Global,
     opened: OpenedWorld,
@@ -57,7 +57,8 @@ pub fn check<S: Source, K: Sink>(
     out: &mut K,
 ) -> Result<InputEnd, Fault>
     requires { IsOpened opened }
-    ensures { (trail : SinkView) → DoesWorld Command.Check result opened.read opened.lines (S.view source.old).left (S.view source.new).left
+    ensures { (trail : SinkView)
+        → DoesWorld Command.Check result opened.read opened.lines (S.view source.old).left (S.view source.new).left
         (ends (S.view source.old).faults (K.view out.old) trail)
         (ends (S.view source.new).faults (K.view out.new) trail) }
 {

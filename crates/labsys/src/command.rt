@@ -1,6 +1,7 @@
 // The commands of the program.
 ghost use Rattle.std.specs.Prelude.{◌≡◌, ◌≤◌, IfOk, IfSome};
-ghost use Rattle.labsys.specs.Commands.{FitsCommand, command_in, command_of, commands, lines_of, reads_source, writes_trail};
+ghost use Rattle.labsys.specs.Commands.{FitsCommand, command_in, command_of, commands, lines_of, reads_source,
+    writes_trail};
 
 use fs_path::numeral;
 use gen_world::MAX_LINES;
@@ -41,11 +42,14 @@ impl<'a> Argument<'a> {
 /// A command.
 #[derive(Drop)]
 pub enum Command<'a> {
-    /// `play FILE` plays the world and the script that the source holds: the records of each call go to the trail, and then its reply to the output.
+    /// `play FILE` plays the world and the script that the source holds: the records of each call go to the trail, and
+    /// then its reply to the output.
     Play,
-    /// `sched FILE` plays the world and the programs that the source holds, in turns by label, and writes the same of each call.
+    /// `sched FILE` plays the world and the programs that the source holds, in turns by label, and writes the same of
+    /// each call.
     Sched,
-    /// `check` reads the world and the script that the source holds, plays nothing, and writes how many objects, processes and calls there are.
+    /// `check` reads the world and the script that the source holds, plays nothing, and writes how many objects,
+    /// processes and calls there are.
     Check,
     /// `gen N` writes the generated input of N lines.
     Gen(u32),
@@ -53,9 +57,11 @@ pub enum Command<'a> {
     Drill(u32),
     /// `view LABEL` plays the world and the script that the source holds, and writes what the label sees of it.
     View(Argument<'a>),
-    /// `upgrade` reads the world and the script of the old format that the source holds, and writes them in the format of today.
+    /// `upgrade` reads the world and the script of the old format that the source holds, and writes them in the format
+    /// of today.
     Upgrade,
-    /// `least` plays the world and the script that the source holds, and writes the world without the capabilities that were not needed.
+    /// `least` plays the world and the script that the source holds, and writes the world without the capabilities that
+    /// were not needed.
     Least,
     /// `select SPEC` reads the trail that the source holds, and writes the records that SPEC picks as lines of JSON.
     Select(Argument<'a>),

@@ -7,8 +7,8 @@ use std::os::unix::fs::MetadataExt;
 // What takes the place of a closed descriptor. There is no use of it that reads or writes bytes.
 const NOWHERE: &str = "/dev/null";
 
-// Opens a file at a descriptor that is closed, where no lower one is. Standard input can't be read then, and standard output not
-// be written, as where they are closed.
+// Opens a file at a descriptor that is closed, where no lower one is. Standard input can't be read then, and standard
+// output not be written, as where they are closed.
 fn fill_if_closed(rt: &HostRuntime, descriptor: i32) -> io::Result<()> {
     let is_output = descriptor == rt.stdout().as_raw_fd();
     let file = OpenOptions::new()
@@ -37,8 +37,8 @@ fn is_file_at(rt: &HostRuntime, path: &str, standard: &str) -> io::Result<bool> 
     Ok(named.is_file() && named.dev() == opened.dev() && named.ino() == opened.ino())
 }
 
-/// The name of the standard input or output, where that is the regular file of a path: what is written to the file would
-/// overwrite what is read or written there.
+/// The name of the standard input or output, where that is the regular file of a path: what is written to the file
+/// would overwrite what is read or written there.
 pub fn standard_file(rt: &HostRuntime, path: &str) -> Option<&'static str> {
     if is_file_at(rt, path, "/dev/stdin").unwrap_or(false) {
         return Some("standard input");

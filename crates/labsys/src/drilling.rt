@@ -57,7 +57,8 @@ fn drill_world<S: Source>(
     source: &mut S,
 ) -> Result<Vec<u8>, Fault>
     requires { IsOpened opened }
-    ensures { IfOk result (λ text. DrillsWorld text.items number opened.read opened.lines (S.view source.old).left (S.view source.new).left) }
+    ensures { IfOk result (λ text. DrillsWorld text.items number opened.read opened.lines (S.view source.old).left
+        (S.view source.new).left) }
 {
     let OpenedWorld { read, mut lines } = opened;
     let WorldText { policy, world } = read;
@@ -90,8 +91,8 @@ fn drill_generated(alloc: Global, number: u32) -> Result<Vec<u8>, Fault>
     }
 }
 
-/// Plays the generated input of so many lines, and then writes one line: how its calls were answered, how many exercises
-/// of capabilities were recorded, and how many processes live at its end.
+/// Plays the generated input of so many lines, and then writes one line: how its calls were answered, how many
+/// exercises of capabilities were recorded, and how many processes live at its end.
 pub fn drill<K: Sink>(alloc: Global, lines: u32, out: &mut K) -> Result<(), Fault>
     requires { (1 ≤ lines) × (lines ≤ MAX_LINES) }
     ensures { WritesOut result (drilled_text lines) (K.view out.old) (K.view out.new) }

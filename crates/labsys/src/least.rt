@@ -58,8 +58,10 @@ fn report_least<K: Sink>(
     out: &mut K,
 ) -> Result<(), Fault>
     requires { IsWorldText read }
-    ensures writes { WritesOut result (needs_text read (caps_in kept.report) kept.ending) (K.view out.old) (K.view out.new) }
-    ensures back { kept.ending ≡ InputEnd.Whole → IfOk result (λ _. ReadsBack (least_world read (caps_in kept.report))) }
+    ensures writes { WritesOut result (needs_text read (caps_in kept.report) kept.ending) (K.view out.old)
+        (K.view out.new) }
+    ensures back { kept.ending ≡ InputEnd.Whole
+        → IfOk result (λ _. ReadsBack (least_world read (caps_in kept.report))) }
 {
     match kept.ending {
         InputEnd::Whole => {
@@ -72,8 +74,8 @@ fn report_least<K: Sink>(
     }
 }
 
-// Plays the script of a world from its first state on, and keeps the capabilities that exercises name. A line that asks for
-// capability sets is refused.
+// Plays the script of a world from its first state on, and keeps the capabilities that exercises name. A line that asks
+// for capability sets is refused.
 fn play_needed<S: Source>(
     alloc: Global,
     read: &WorldText,
@@ -84,7 +86,8 @@ fn play_needed<S: Source>(
     requires more { lines.old.more ≡ true }
     requires small { lines.old.room ≤ 2 ^ 24 }
     ensures needs { NeedsWorld result read.now lines.old (S.view source.old).left (S.view source.new).left }
-    ensures counts { (o t : ℕ) → CountsOnce result (counts (S.view source.old).faults o t) (counts (S.view source.new).faults o t) }
+    ensures counts { (o t : ℕ)
+        → CountsOnce result (counts (S.view source.old).faults o t) (counts (S.view source.new).faults o t) }
 {
     let texts = Texts {
         alloc,
@@ -104,8 +107,8 @@ fn play_needed<S: Source>(
     )
 }
 
-/// Plays a world that was accepted and the script after it, and writes the world without the capabilities that no exercise
-/// named, after a line of these. A call or a utility that asks for capability sets is refused.
+/// Plays a world that was accepted and the script after it, and writes the world without the capabilities that no
+/// exercise named, after a line of these. A call or a utility that asks for capability sets is refused.
 pub fn least<S: Source, K: Sink>(
     alloc: Global,
     opened: OpenedWorld,
@@ -113,7 +116,8 @@ pub fn least<S: Source, K: Sink>(
     out: &mut K,
 ) -> Result<InputEnd, Fault>
     requires { IsOpened opened }
-    ensures { (trail : SinkView) → DoesWorld Command.Least result opened.read opened.lines (S.view source.old).left (S.view source.new).left
+    ensures { (trail : SinkView)
+        → DoesWorld Command.Least result opened.read opened.lines (S.view source.old).left (S.view source.new).left
         (ends (S.view source.old).faults (K.view out.old) trail)
         (ends (S.view source.new).faults (K.view out.new) trail) }
 {

@@ -50,8 +50,8 @@ fn write_lineage<K: Sink>(alloc: Global, trail: &Trail, out: &mut K) -> Result<(
     answer(out, &text)
 }
 
-/// Reads the trail that a source holds, and writes whether each of its records may follow those before it: `yes` and how many
-/// they are, or `no` with the line of the first that may not, and why.
+/// Reads the trail that a source holds, and writes whether each of its records may follow those before it: `yes` and
+/// how many they are, or `no` with the line of the first that may not, and why.
 pub fn lineage<S: Source, K: Sink>(
     alloc: Global,
     source: &mut S,

@@ -30,8 +30,8 @@ fn format_of(command: &Command<'_>) -> Format
     }
 }
 
-// Opens the input that a command reads, and performs the command on its world and on what follows it. Of an input without a
-// world it writes the last line.
+// Opens the input that a command reads, and performs the command on its world and on what follows it. Of an input
+// without a world it writes the last line.
 fn perform_on_input<S: Source, K: Sink, T: Sink>(
     alloc: Global,
     command: Command<'_>,
@@ -43,7 +43,8 @@ fn perform_on_input<S: Source, K: Sink, T: Sink>(
     ensures did { CommandDid command.entry result (S.view source.old).left (S.view source.new).left
         (ends (S.view source.old).faults (K.view out.old) (T.view trail.old))
         (ends (S.view source.new).faults (K.view out.new) (T.view trail.new)) }
-    ensures alone { LeavesAlone (Some command.entry) (source.new ≡ source.old) (out.new ≡ out.old) (trail.new ≡ trail.old) }
+    ensures alone { LeavesAlone (Some command.entry) (source.new ≡ source.old) (out.new ≡ out.old)
+        (trail.new ≡ trail.old) }
     ensures trail_fault { result ≡ Err Fault.Trail → writes_trail command.entry ≡ true }
 {
     let opened = match open_input(alloc, format_of(&command), source)? {
@@ -75,7 +76,8 @@ pub fn perform<S: Source, K: Sink, T: Sink>(
     ensures did { CommandDid command.entry result (S.view source.old).left (S.view source.new).left
         (ends (S.view source.old).faults (K.view out.old) (T.view trail.old))
         (ends (S.view source.new).faults (K.view out.new) (T.view trail.new)) }
-    ensures alone { LeavesAlone (Some command.entry) (source.new ≡ source.old) (out.new ≡ out.old) (trail.new ≡ trail.old) }
+    ensures alone { LeavesAlone (Some command.entry) (source.new ≡ source.old) (out.new ≡ out.old)
+        (trail.new ≡ trail.old) }
     // A fault is one of an end that the command uses.
     ensures read_fault { result ≡ Err Fault.Read → reads_source command.entry ≡ true }
     ensures trail_fault { result ≡ Err Fault.Trail → writes_trail command.entry ≡ true }

@@ -29,7 +29,8 @@ fn is_viewed(viewer: &Option<Label>, who: &Pid) -> bool
 
 // The end line of a process, or no byte where it does not live.
 fn end_of(texts: Texts<'_>, kernel: &Kernel, who: &Pid) -> Result<Vec<u8>, NoMemory>
-    ensures { IfOk result (λ text. text.items ≡ end_text texts.entry.policy.now who.now (label_in (state_of kernel.now) who.now) (caps_in (state_of kernel.now) who.now)) }
+    ensures { IfOk result (λ text. text.items ≡ end_text texts.entry.policy.now who.now
+        (label_in (state_of kernel.now) who.now) (caps_in (state_of kernel.now) who.now)) }
 {
     match (kernel.label_of(who), kernel.caps_of(who)) {
         (Some(label), Some(caps)) => end_line(texts, who, &label, &caps),
@@ -44,7 +45,9 @@ fn end_viewed(
     viewer: &Option<Label>,
     who: &Pid,
 ) -> Result<Vec<u8>, NoMemory>
-    ensures { IfOk result (λ text. text.items ≡ cond (is_viewed viewer.now who.now) (end_text texts.entry.policy.now who.now (label_in (state_of kernel.now) who.now) (caps_in (state_of kernel.now) who.now)) []) }
+    ensures { IfOk result (λ text. text.items
+        ≡ cond (is_viewed viewer.now who.now) (end_text texts.entry.policy.now who.now
+            (label_in (state_of kernel.now) who.now) (caps_in (state_of kernel.now) who.now)) []) }
 {
     if is_viewed(viewer, who) {
         end_of(texts, kernel, who)
@@ -60,7 +63,8 @@ fn report_ends<K: Sink>(
     viewer: &Option<Label>,
     out: &mut K,
 ) -> Result<(), Fault>
-    ensures { WritesOut result (ends_text viewer.now texts.entry.policy.now (state_of kernel.now)) (K.view out.old) (K.view out.new) }
+    ensures { WritesOut result (ends_text viewer.now texts.entry.policy.now (state_of kernel.now)) (K.view out.old)
+        (K.view out.new) }
 {
     let numbers = kernel.live()?;
     for who in numbers.items() {
@@ -79,14 +83,15 @@ pub fn finish<K: Sink>(
     played: Played,
     out: &mut K,
 ) -> Result<(), Fault>
-    ensures { WritesOut result (ends_text viewer.now texts.entry.policy.now (state_of kernel.now) ++ last_text played.count played.ending) (K.view out.old) (K.view out.new) }
+    ensures { WritesOut result (ends_text viewer.now texts.entry.policy.now (state_of kernel.now)
+        ++ last_text played.count played.ending) (K.view out.old) (K.view out.new) }
 {
     report_ends(texts, kernel, viewer, out)?;
     report_last(texts.alloc, played.count, played.ending, out)
 }
 
-/// Plays a world that was accepted and the script after it, line by line: replies go to the output, records to the trail. The
-/// kernel uses the world up, so that no object is kept twice.
+/// Plays a world that was accepted and the script after it, line by line: replies go to the output, records to the
+/// trail. The kernel uses the world up, so that no object is kept twice.
 pub fn play<S: Source, K: Sink, T: Sink>(
     alloc: Global,
     opened: OpenedWorld,

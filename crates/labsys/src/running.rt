@@ -25,7 +25,8 @@ fn status_of(played: Result<InputEnd, Fault>) -> Status
     }
 }
 
-/// Runs the command that the words name: the variants of `Command` say what each does. FILE is not opened: `trail` stands for it.
+/// Runs the command that the words name: the variants of `Command` say what each does. FILE is not opened: `trail`
+/// stands for it.
 pub fn run<S: Source, K: Sink, T: Sink>(
     alloc: Global,
     words: &[String],
@@ -35,7 +36,8 @@ pub fn run<S: Source, K: Sink, T: Sink>(
 ) -> Status
     ensures runs { Runs words.now result (run_ends (S.view source.old) (K.view out.old) (T.view trail.old))
         (run_ends (S.view source.new) (K.view out.new) (T.view trail.new)) }
-    // Without a command nothing is read or written. A command leaves the source and the trail alone, where it does not use them.
+    // Without a command nothing is read or written. A command leaves the source and the trail alone, where it does not
+    // use them.
     ensures left_alone { LeavesAlone (command_of words.now) (source.new ≡ source.old)
         (out.new ≡ out.old) (trail.new ≡ trail.old) }
 {

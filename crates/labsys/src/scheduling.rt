@@ -29,8 +29,10 @@ fn run_schedule<K: Sink, T: Sink>(
     requires world { IsWorld read.world }
     requires top { read.world.top ≡ top_of read.policy }
     requires plays { MayBePlayed (top_of read.policy) schedule.now }
-    ensures writes { WritesBoth result (session_order (session_by read schedule.now)) (K.view out.old) (K.view out.new) (T.view trail.old) (T.view trail.new) }
-    ensures readable { (source : ℕ) → RunReadable (session_by read schedule.now) (ends source (K.view out.old) (T.view trail.old)) (ends source (K.view out.new) (T.view trail.new)) }
+    ensures writes { WritesBoth result (session_order (session_by read schedule.now)) (K.view out.old) (K.view out.new)
+        (T.view trail.old) (T.view trail.new) }
+    ensures readable { (source : ℕ) → RunReadable (session_by read schedule.now)
+        (ends source (K.view out.old) (T.view trail.old)) (ends source (K.view out.new) (T.view trail.new)) }
 {
     let WorldText { policy, world } = read;
     let texts = Texts {
@@ -49,8 +51,8 @@ fn run_schedule<K: Sink, T: Sink>(
     finish(texts, &kernel, &None, played, out)
 }
 
-/// Reads the programs that follow a world that was accepted, to the end of the input, and then runs them: replies go to the
-/// output, records to the trail.
+/// Reads the programs that follow a world that was accepted, to the end of the input, and then runs them: replies go to
+/// the output, records to the trail.
 pub fn sched<S: Source, K: Sink, T: Sink>(
     alloc: Global,
     opened: OpenedWorld,

@@ -5,7 +5,8 @@ ghost use Rattle.io_ends.specs.Ends.{SinkView};
 ghost use Rattle.aud_red.specs.Select.{parse_select};
 ghost use Rattle.lab_engine.specs.Playing.{WritesOut, ends};
 ghost use Rattle.labsys.specs.Playing.{CommandDid};
-ghost use Rattle.labsys.specs.Selecting.{count_selected, ending_of_select, selected_line, selected_text, text_of_selection, ending_of_selection};
+ghost use Rattle.labsys.specs.Selecting.{count_selected, ending_of_select, selected_line, selected_text,
+    text_of_selection, ending_of_selection};
 
 use crate::playing::end_without_world;
 use crate::trails::{ReadTrail, read_trail};
@@ -42,7 +43,8 @@ fn write_lines<K: Sink>(
     trail: &Trail,
     out: &mut K,
 ) -> Result<(), Fault>
-    ensures { WritesOut result (flat_map (selected_line trail.now.policy select.now) trail.now.recs) (K.view out.old) (K.view out.new) }
+    ensures { WritesOut result (flat_map (selected_line trail.now.policy select.now) trail.now.recs) (K.view out.old)
+        (K.view out.new) }
 {
     for rec in trail.recs.items() {
         let text = line_of(alloc, &trail.policy, select, rec)?;
@@ -94,7 +96,8 @@ fn select_from<K: Sink>(
     trail: &Trail,
     out: &mut K,
 ) -> Result<InputEnd, Fault>
-    ensures writes { WritesOut result (text_of_selection trail.now (parse_select trail.now.policy word.now)) (K.view out.old) (K.view out.new) }
+    ensures writes { WritesOut result (text_of_selection trail.now (parse_select trail.now.policy word.now))
+        (K.view out.old) (K.view out.new) }
     ensures ending { IfOk result (λ e. e ≡ ending_of_selection (parse_select trail.now.policy word.now)) }
 {
     match Select::read(&trail.policy, word.bytes()) {
@@ -106,14 +109,16 @@ fn select_from<K: Sink>(
     }
 }
 
-/// Reads the trail that a source holds, and writes the records that a word picks as lines of JSON, and then their number.
+/// Reads the trail that a source holds, and writes the records that a word picks as lines of JSON, and then their
+/// number.
 pub fn select<S: Source, K: Sink>(
     alloc: Global,
     word: Argument<'_>,
     source: &mut S,
     out: &mut K,
 ) -> Result<InputEnd, Fault>
-    ensures { (trail : SinkView) → CommandDid (Command.Select word.entry) result (S.view source.old).left (S.view source.new).left
+    ensures { (trail : SinkView)
+        → CommandDid (Command.Select word.entry) result (S.view source.old).left (S.view source.new).left
         (ends (S.view source.old).faults (K.view out.old) trail)
         (ends (S.view source.new).faults (K.view out.new) trail) }
 {

@@ -11,8 +11,8 @@ use io_ends::{Lines, Sink, Source};
 use kern_core::Kernel;
 use lab_engine::{Fault, Judge, Played, Report, Reporter, Texts, play_script};
 
-/// The kernel that a world was booted on, with the names of the world's labels, the reader of its script, and what of the
-/// run is written and kept.
+/// The kernel that a world was booted on, with the names of the world's labels, the reader of its script, and what of
+/// the run is written and kept.
 #[derive(Drop)]
 pub struct Session<'a> {
     pub texts: Texts<'a>,
@@ -33,10 +33,13 @@ impl<'a> Session<'a> {
         requires top { (state_of self.old.kernel).top ≡ top_of reporter.old.texts.policy.now }
         requires counted { CountsAtMost 0 reporter.old.report }
         requires seen { HasSeen 0 reporter.old.seen.items reporter.old.stopped.items }
-        ensures plays { PlaysScript result takes_all reporter.old.texts.policy.now reporter.old.report self.new.report (state_of self.old.kernel) (state_of self.new.kernel) self.old.lines self.new.lines (S.view source.old).left (S.view source.new).left
+        ensures plays { PlaysScript result takes_all reporter.old.texts.policy.now reporter.old.report self.new.report
+            (state_of self.old.kernel) (state_of self.new.kernel) self.old.lines self.new.lines
+            (S.view source.old).left (S.view source.new).left
             (ends (S.view source.old).faults (K.view reporter.old.out.now) (T.view reporter.old.trail.now))
             (ends (S.view source.new).faults (K.view reporter.new.out.now) (T.view reporter.new.trail.now)) }
-        ensures same { SameEnds reporter.old.texts.policy.now reporter.new.texts.policy.now reporter.old.out reporter.new.out reporter.old.trail reporter.new.trail }
+        ensures same { SameEnds reporter.old.texts.policy.now reporter.new.texts.policy.now
+            reporter.old.out reporter.new.out reporter.old.trail reporter.new.trail }
     {
         let played = play_script(
             Judge::TakesAll,
@@ -60,7 +63,9 @@ impl<'a> Session<'a> {
         requires small { self.old.lines.room ≤ 2 ^ 24 }
         requires top { (state_of self.old.kernel).top ≡ top_of self.old.texts.policy.now }
         requires counted { CountsAtMost 0 self.old.report }
-        ensures { PlaysScript result takes_all self.old.texts.policy.now self.old.report self.new.report (state_of self.old.kernel) (state_of self.new.kernel) self.old.lines self.new.lines (S.view source.old).left (S.view source.new).left
+        ensures { PlaysScript result takes_all self.old.texts.policy.now self.old.report self.new.report
+            (state_of self.old.kernel) (state_of self.new.kernel) self.old.lines self.new.lines
+            (S.view source.old).left (S.view source.new).left
             (ends (S.view source.old).faults (K.view out.old) (T.view trail.old))
             (ends (S.view source.new).faults (K.view out.new) (T.view trail.new)) }
     {

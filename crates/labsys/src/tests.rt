@@ -80,8 +80,8 @@ impl Left {
         })
     }
 
-    // Whether a run left these. Tests assert this, and no `assert_eq!` of two values, since a test is proved again at each of its
-    // ways out.
+    // Whether a run left these. Tests assert this, and no `assert_eq!` of two values, since a test is proved again at
+    // each of its ways out.
     fn is(
         self,
         alloc: Global,

@@ -14,7 +14,8 @@ use std::alloc::Global;
 
 // How an input ends that is no trail.
 fn ending_of_error(error: TrailError) -> Result<InputEnd, NoMemory>
-    ensures { MatchResult result (λ ending. (is_no_memory error ≡ false) × (ending ≡ ending_of_error error)) (λ _. is_no_memory error ≡ true) }
+    ensures { MatchResult result (λ ending. (is_no_memory error ≡ false) × (ending ≡ ending_of_error error))
+        (λ _. is_no_memory error ≡ true) }
 {
     match error {
         TrailError::Header(line) => Ok(refused_line(line, LineFault::Header)),
@@ -40,10 +41,12 @@ pub enum ReadTrail {
     Ended(InputEnd),
 }
 
-/// Reads a source to its end, or to one byte past the limit, and returns the trail that it holds, or how it ends without one.
+/// Reads a source to its end, or to one byte past the limit, and returns the trail that it holds, or how it ends
+/// without one.
 pub fn read_trail<S: Source>(alloc: Global, source: &mut S) -> Result<ReadTrail, Fault>
     ensures reads { ReadsTrail result (S.view source.old).left (S.view source.new).left }
-    ensures counts { (o t : ℕ) → CountsOnce result (counts (S.view source.old).faults o t) (counts (S.view source.new).faults o t) }
+    ensures counts { (o t : ℕ)
+        → CountsOnce result (counts (S.view source.old).faults o t) (counts (S.view source.new).faults o t) }
 {
     let whole = read_whole(alloc, source, MAX_INPUT)?;
     if whole.more {

@@ -24,8 +24,8 @@ fn write_world<K: Sink>(read: &WorldText, out: &mut K) -> Result<(), Fault>
     answer(out, &text)
 }
 
-/// Writes a world of the old format that was accepted in the format of today, and the lines of the script after it as they
-/// came, up to the first refused one.
+/// Writes a world of the old format that was accepted in the format of today, and the lines of the script after it as
+/// they came, up to the first refused one.
 pub fn upgrade<S: Source, K: Sink>(
     alloc: Global,
     opened: OpenedWorld,
@@ -33,7 +33,8 @@ pub fn upgrade<S: Source, K: Sink>(
     out: &mut K,
 ) -> Result<InputEnd, Fault>
     requires { IsOpened opened }
-    ensures { (trail : SinkView) → DoesWorld Command.Upgrade result opened.read opened.lines (S.view source.old).left (S.view source.new).left
+    ensures { (trail : SinkView)
+        → DoesWorld Command.Upgrade result opened.read opened.lines (S.view source.old).left (S.view source.new).left
         (ends (S.view source.old).faults (K.view out.old) trail)
         (ends (S.view source.new).faults (K.view out.new) trail) }
 {

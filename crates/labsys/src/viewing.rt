@@ -46,8 +46,11 @@ fn finish_view<K: Sink>(
     ending: InputEnd,
     out: &mut K,
 ) -> Result<(), Fault>
-    ensures below { (label : Label) (count : ℕ) → report ≡ a_report.Below label count → WritesOut result (ends_text (Some label) texts.entry.policy.now (state_of kernel.now) ++ last_text count ending) (K.view out.old) (K.view out.new) }
-    ensures others { ((label : Label) (count : ℕ) → report ≢ a_report.Below label count) → WritesOut result (unless_whole ending) (K.view out.old) (K.view out.new) }
+    ensures below { (label : Label) (count : ℕ) → report ≡ a_report.Below label count
+        → WritesOut result (ends_text (Some label) texts.entry.policy.now (state_of kernel.now)
+            ++ last_text count ending) (K.view out.old) (K.view out.new) }
+    ensures others { ((label : Label) (count : ℕ) → report ≢ a_report.Below label count)
+        → WritesOut result (unless_whole ending) (K.view out.old) (K.view out.new) }
 {
     match report {
         Report::Below(label, written) => {
@@ -72,7 +75,8 @@ fn view_from<S: Source, K: Sink>(
     out: &mut K,
 ) -> Result<InputEnd, Fault>
     requires { IsOpened opened }
-    ensures { (trail : SinkView) → WritesLeft (due_of_label (Some label) opened.read opened.lines) result opened.lines (S.view source.old).left (S.view source.new).left
+    ensures { (trail : SinkView) → WritesLeft (due_of_label (Some label) opened.read opened.lines) result opened.lines
+        (S.view source.old).left (S.view source.new).left
         (ends (S.view source.old).faults (K.view out.old) trail)
         (ends (S.view source.new).faults (K.view out.new) trail) }
 {
@@ -101,8 +105,9 @@ fn label_named(policy: &Policy, word: &Argument<'_>) -> Option<Label>
     mac_from_text(policy, word.bytes()).ok()
 }
 
-/// Plays a world that was accepted and the script after it, and writes what the label of a word sees of it: the replies up to
-/// the first call that crosses the label, and the line `crossed`, or else the end lines and how many replies were written.
+/// Plays a world that was accepted and the script after it, and writes what the label of a word sees of it: the replies
+/// up to the first call that crosses the label, and the line `crossed`, or else the end lines and how many replies were
+/// written.
 pub fn view<S: Source, K: Sink>(
     alloc: Global,
     word: Argument<'_>,
@@ -111,7 +116,8 @@ pub fn view<S: Source, K: Sink>(
     out: &mut K,
 ) -> Result<InputEnd, Fault>
     requires { IsOpened opened }
-    ensures { (trail : SinkView) → DoesWorld (Command.View word.entry) result opened.read opened.lines (S.view source.old).left (S.view source.new).left
+    ensures { (trail : SinkView) → DoesWorld (Command.View word.entry) result opened.read opened.lines
+        (S.view source.old).left (S.view source.new).left
         (ends (S.view source.old).faults (K.view out.old) trail)
         (ends (S.view source.new).faults (K.view out.new) trail) }
 {

@@ -1,4 +1,4 @@
-use Rattle.std.proofs.Common.{refl, sym, ◌∙◌, ap}
+use Rattle.std.proofs.Common.{refl, sym, ◌∙◌}
 use Rattle.lab_engine.proofs.Sending.{passes_on}
 use Rattle.labsys.specs.Commands.{due_of_lineage}
 use Rattle.labsys.proofs.WorldLemmas.{failed_ending}
