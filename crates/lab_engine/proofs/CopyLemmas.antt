@@ -1,5 +1,5 @@
 -- A script whose lines are written as they came.
-use Rattle.std.proofs.Common.{◌≡◌, ℕ, ◌+◌, List, [], ◌∷◌, ◌++◌, length, refl, sym, ◌∙◌, ap, subst}
+use Rattle.std.proofs.Common.{◌≡◌, ℕ, List, [], ◌∷◌, ◌++◌, refl, sym, ◌∙◌, ap, subst}
 use Rattle.std.proofs.lemmas.Grind.{flat_map-append}
 use Rattle.std.proofs.lemmas.List.{append-nil}
 use Rattle.std.specs.Prelude.{IsErrAnd, Result, Ok, Err, MatchResult}
@@ -9,7 +9,7 @@ use Rattle.lab_text.specs.Policy.{PolicyNames}
 use Rattle.lab_engine.specs.declared.ending.Fault.{Fault}
 use Rattle.lab_engine.specs.declared.ending.InputEnd.{InputEnd}
 use Rattle.lab_engine.specs.declared.playing.Played.{Played}
-use Rattle.lab_engine.specs.Handling.{Handled, HandlesScript, NextLine, NoLine}
+use Rattle.lab_engine.specs.Handling.{HandlesScript, NextLine, NoLine}
 use Rattle.lab_engine.specs.Input.{ScriptLine}
 use Rattle.lab_engine.specs.UpgradeInput.{refuses_mixed, text_of_lines}
 use Rattle.lab_engine.specs.Order.{Sent, to_out}

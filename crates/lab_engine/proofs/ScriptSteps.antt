@@ -15,7 +15,7 @@ use Rattle.lab_engine.specs.Counts.{Counts, counted_by, counts}
 use Rattle.lab_engine.specs.Handling.{Handled, NoLine, NextLine as HandledNext, HandlesScript, StopsBetween}
 use Rattle.lab_engine.specs.Input.{Judge, ScriptLine, ScriptLines, items_in, items_of_lines, script_line}
 use Rattle.lab_engine.specs.Reading.{Follows, left_of, lines_at}
-use Rattle.lab_engine.proofs.ReadSoFar.{ReadSoFar, given_now, line_read, line_says, read_begins, read_ends, read_line, read_small, read_takes, says_more}
+use Rattle.lab_engine.proofs.ReadSoFar.{ReadSoFar, line_read, line_says, read_begins, read_ends, read_line, read_small, read_takes, says_more}
 
 -- the lines that were read so far were handled
 pub record HandledSoFar {H : Type 0} (handles : ℕ → ScriptLine → H → H → Type 0) (judge : Judge) (policy : PolicyNames) (lines0 lines : LinesState) (source0 source : SourceView) (first now : H) (count : ℕ) : Type 0 where
