@@ -246,14 +246,20 @@ def kit():
     return re.findall(r"^kit=(.*)$", text_of("build.sh"), re.M)
 
 
-def fields_of_plays():
-    body = match_in("crates/labsys/specs/Promises.antt", r"pub record Plays\b(.*?)(?:pub record|\Z)", "record Plays")[1]
+def fields_of(path, record):
+    body = match_in(path, rf"pub record {record}\b(.*?)(?:pub record|\Z)", f"record {record}")[1]
     return re.findall(r"^  pub (\w+) :", body, re.M)
 
 
+def fields_of_plays():
+    return fields_of("crates/labsys/specs/Promises.antt", "Plays")
+
+
 def clauses_of_run():
+    """The clauses of the contract, of which `runs` is the record `Runs`."""
     body = match_in("crates/labsys/src/running.rt", r"pub fn run<(.*)", "function run")[1]
-    return re.findall(r"^    ensures (\w+) \{", body, re.M)
+    clauses = set(re.findall(r"^    ensures (\w+) \{", body, re.M))
+    return clauses - {"runs"} | set(fields_of("crates/labsys/specs/Running.antt", "Runs"))
 
 
 # ---- what pages have
@@ -740,7 +746,7 @@ NUMBERS = [
     ("docs/THEOREMS.md", "With status {Done}, {Refused} or {TooLong} all reply lines are in the output"),
     ("docs/THEOREMS.md", "With status {Done}, {Refused} or {TooLong}, where the trail has at most {INPUT} bytes"),
     ("docs/THEOREMS.md", "of the records of the run, and its status is {Done}"),
-    ("docs/THEOREMS.md", "| status {Usage} | `words` |"),
+    ("docs/THEOREMS.md", "| status {Usage} | `usage` |"),
     ("docs/THEOREMS.md", "so status {NoMemory} may come before a command is known"),
     ("docs/THEOREMS.md", "source and sinks are as they were, also with status {NoMemory}."),
     ("docs/THEOREMS.md", "the status is {Usage} by the words, {Done}, {Refused} or {TooLong} by the input"),
