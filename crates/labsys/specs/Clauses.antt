@@ -74,7 +74,7 @@ abbrev pub HasAllCalls : Option Accepted → Script → List ℕ → List ℕ �
 HasAllCalls None script out trail = (out ≡ []) × (trail ≡ [])
 HasAllCalls (Some a) script out trail =
     (out ≡ replies_of (bytes_of (session_of a script)))
-        × (trail ≡ head_text (session_of a script) ++ records_of (bytes_of (session_of a script)))
+    × (trail ≡ head_text (session_of a script) ++ records_of (bytes_of (session_of a script)))
 
 -- the same of the world and the calls in the bytes that were taken of a text
 abbrev pub PlayedTaken : List ℕ → Option (List ℕ) → List ℕ → List ℕ → Type 0
@@ -141,7 +141,7 @@ trail_with s recs = header_text s.policy s.bound ++ flat_map (λ (r : ℕ × Rec
 abbrev pub out_with : Session → List Rec → List ℕ
 out_with s recs = replies_of (bytes_of s)
     ++ (flat_map (λ who. end_text s.policy who (label_in s.last_state who) (Some (caps_of s.bound recs who)))
-        (finite.keys s.last_state.procs) ++ last_text (length s.calls) s.ending)
+    (finite.keys s.last_state.procs) ++ last_text (length s.calls) s.ending)
 
 -- each end line has the capability sets that the records give, and where the output goes on after the replies the trail
 -- has them all

@@ -117,9 +117,10 @@ due_of_check i = record { order = order_of_check i; status = ends_with i.script.
 
 -- what is due of an input that is viewed from the label of a word
 abbrev pub due_of_view : List ℕ → Input → Due
-due_of_view word i = record
-    { order = to_out (text_of_view word i.accepted i.script)
-    ; status = ends_with (ending_of_view word i.accepted i.script.ending) }
+due_of_view word i = record {
+  order = to_out (text_of_view word i.accepted i.script);
+  status = ends_with (ending_of_view word i.accepted i.script.ending);
+}
 
 -- what is due of an input that is upgraded
 abbrev pub due_of_upgrade : UpgradeInput → Due

@@ -83,6 +83,6 @@ pub record NarrowedTo (text out : List ℕ) : Type 0 where
   pub same : HasShortLines (least_world world (needed_by world (script items Whole)))
       → length (out ++ behind) ≤ MAX_INPUT
       → input_of (out ++ behind) ≡ record
-          { accepted = Some (least_world world (needed_by world (script items Whole))); script = script items Whole }
+      { accepted = Some (least_world world (needed_by world (script items Whole))); script = script items Whole }
   pub same_replies : replies (boot (least_world world (needed_by world (script items Whole))).world) items
       ≡ replies (boot world.world) items

@@ -135,9 +135,10 @@ pub record DoesWorld (command : Command) (result : Result InputEnd Fault) (a : A
 
 -- what is due of a view from a label, if there is one, by the same
 abbrev pub due_of_label : Option Label → Accepted → LinesState → List ℕ → Due
-due_of_label o a lines more = record
-    { order = to_out (viewed_text o a (script_at a.policy lines more))
-    ; status = ends_with (viewed_ending o (script_at a.policy lines more).ending) }
+due_of_label o a lines more = record {
+  order = to_out (viewed_text o a (script_at a.policy lines more));
+  status = ends_with (viewed_ending o (script_at a.policy lines more).ending);
+}
 
 -- a script of an accepted world was played from the first state on, and its exercises name these capabilities
 pub record NeededIn (a : Accepted) (m : Script) (left : Option (List ℕ)) (k : Kept) : Type 0 where

@@ -62,8 +62,8 @@ pub record Views (word : List ℕ) (status : Status) (old now : Reports) : Type 
   -- Where no record of the whole run crosses the label, `view` writes what it writes of the part below the label alone.
   pub view_alone : (l : Label) → status ≡ Done
       → OnAccepted (reports_used (View word) old) (reports_used (View word) now)
-          (λ a script out trail. parse_label a.policy word ≡ Some l → up_to l (run_of a script) ≡ run_of a script
-              → out ≡ view_text l (session_alone l a script))
+      (λ a script out trail. parse_label a.policy word ≡ Some l → up_to l (run_of a script) ≡ run_of a script
+      → out ≡ view_text l (session_alone l a script))
 
 -- a run of `upgrade`, with this status
 pub record Upgrades (status : Status) (old now : Reports) : Type 0 where

@@ -62,7 +62,7 @@ pub record Runs (words : List (String Global)) (status : Status) (old now : RunE
   -- on them.
   pub ending : IfSome (command_of words) (λ command. OnWhole status
       ((text : List ℕ) → if_used (reads_source command) old.source.left ≡ Some text
-          → status ≡ (due command text).status))
+      → status ≡ (due command text).status))
   -- What `play` promises besides: records before replies, isolation, the capability sets at the end, and a trail of
   -- which `lineage` says `yes`.
   pub play : command_of words ≡ Some Play → Plays status (reports_of old) (reports_of now)

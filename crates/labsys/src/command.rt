@@ -1,7 +1,14 @@
 // The commands of the program.
 ghost use Rattle.std.specs.Prelude.{◌≡◌, ◌≤◌, IfOk, IfSome};
-ghost use Rattle.labsys.specs.Commands.{FitsCommand, command_in, command_of, commands, lines_of, reads_source,
-    writes_trail};
+ghost use Rattle.labsys.specs.Commands.{
+  FitsCommand,
+  command_in,
+  command_of,
+  commands,
+  lines_of,
+  reads_source,
+  writes_trail,
+};
 
 use fs_path::numeral;
 use gen_world::MAX_LINES;

@@ -47,7 +47,7 @@ fn end_viewed(
 ) -> Result<Vec<u8>, NoMemory>
     ensures { IfOk result (λ text. text.items
         ≡ cond (is_viewed viewer.now who.now) (end_text texts.entry.policy.now who.now
-            (label_in (state_of kernel.now) who.now) (caps_in (state_of kernel.now) who.now)) []) }
+        (label_in (state_of kernel.now) who.now) (caps_in (state_of kernel.now) who.now)) []) }
 {
     if is_viewed(viewer, who) {
         end_of(texts, kernel, who)

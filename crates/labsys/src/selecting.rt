@@ -5,8 +5,14 @@ ghost use Rattle.io_ends.specs.Ends.{SinkView};
 ghost use Rattle.aud_red.specs.Select.{parse_select};
 ghost use Rattle.lab_engine.specs.Playing.{WritesOut, ends};
 ghost use Rattle.labsys.specs.Playing.{CommandDid};
-ghost use Rattle.labsys.specs.Selecting.{count_selected, ending_of_select, selected_line, selected_text,
-    text_of_selection, ending_of_selection};
+ghost use Rattle.labsys.specs.Selecting.{
+  count_selected,
+  ending_of_select,
+  selected_line,
+  selected_text,
+  text_of_selection,
+  ending_of_selection,
+};
 
 use crate::playing::end_without_world;
 use crate::trails::{ReadTrail, read_trail};

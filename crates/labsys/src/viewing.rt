@@ -48,7 +48,7 @@ fn finish_view<K: Sink>(
 ) -> Result<(), Fault>
     ensures below { (label : Label) (count : ℕ) → report ≡ a_report.Below label count
         → WritesOut result (ends_text (Some label) texts.entry.policy.now (state_of kernel.now)
-            ++ last_text count ending) (K.view out.old) (K.view out.new) }
+        ++ last_text count ending) (K.view out.old) (K.view out.new) }
     ensures others { ((label : Label) (count : ℕ) → report ≢ a_report.Below label count)
         → WritesOut result (unless_whole ending) (K.view out.old) (K.view out.new) }
 {
