@@ -68,6 +68,9 @@ WAYS = [
     Way("a process gets the label of what it moves and replaces", 'dir / 0777 20 20 low\nfile /a 0000 20 20 low "secret"\n'
         'file /b 0000 30 10 high "letter"\nproc high 10 10 - "cap_mac_downgrade,cap_fowner,cap_mac_relabel_subj=ep"\n', "/a", "/b",
         ["mac_set_file /b low", "mac_set_proc low", "rename /a /b"]),
+    Way("a label is lowered once no high directory has the object", 'dir / 0777 20 20 low\ndir /d 0711 10 10 high\n'
+        'file /d/a 0444 10 10 high "secret"\nproc low 10 10 - "cap_mac_write,cap_mac_downgrade=ep"\nproc high 10 10 - "cap_mac_write=ep"\n',
+        "/d/a", "1@low", ["rename /d/a /copy1", "mac_set_file /copy1 low", "open /copy1 r", "read 0 6"]),
 ]
 
 

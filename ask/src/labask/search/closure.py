@@ -1,4 +1,5 @@
 """All facts that can come to be where none is lost, and all steps by which."""
+import functools
 import itertools
 from collections import defaultdict
 from typing import Any, Callable, DefaultDict, Dict, Iterable, Iterator, List, Mapping, Optional, Set, Tuple
@@ -82,6 +83,12 @@ class Closure:
         self.last_entered: Dict[Tuple[int, int], Set[int]] = {}
         self.inside_at_start: DefaultDict[int, Set[int]] = defaultdict(set)
         self.users, self.groups, self.labels = self.choices()
+
+    @functools.cached_property
+    def relabels(self) -> bool:
+        """Whether a process has or a program gives a capability by which the labels of objects are changed."""
+        sets = [process.caps for process in self.state.processes.values()] + [thing.caps for thing in self.state.things.values()]
+        return any(bits & (Cap.MAC_UPGRADE | Cap.MAC_DOWNGRADE) for caps in sets for bits in caps)
 
     def choices(self) -> Tuple[List[int], List[int], List[Label]]:
         """The users, groups and labels that are asked for: those of the world, and the highest label."""
@@ -877,7 +884,7 @@ class Actor:
                 continue
             if self.kinds[item] is not Kind.DIRECTORY:
                 yield from self.linking(item, directory)
-            if self.kinds[item] is Kind.DIRECTORY or self.all.taken_names(directory, item):
+            if self.kinds[item] is Kind.DIRECTORY or self.all.taken_names(directory, item) or self.frees_label(item, directory):
                 yield from self.renaming(item, directory)
 
     def movable(self, directory: int, named: List[int]) -> List[int]:
@@ -906,6 +913,17 @@ class Actor:
         fitting = frozenset(filter(fits, labels))
         return [] if len(fitting) == len(labels) else [self.all.need((SOME, LABEL, item, fitting))]
 
+    def frees_label(self, item: int, directory: int) -> bool:
+        """Whether an object may take a label in a directory that it can't have where it lies: a link would leave it there."""
+        return any(self.frees_label_of(old, directory) for old in self.all.births[item])
+
+    def frees_label_of(self, old: int, directory: int) -> bool:
+        """Whether an object may take a label in a directory that it can't have in another one. Rough closures need the link alone."""
+        if self.all.rough or not self.all.relabels:
+            return False
+        here, there = self.all.values[LABEL, directory], self.all.values[LABEL, old]
+        return any(any(map(new.dominates, here)) and not all(map(new.dominates, there)) for new in self.all.labels)
+
     def linking(self, item: int, directory: int) -> Iterator[Step]:
         """Linking an object into a directory."""
         names, moved = self.all.taken_names(directory, item), self.all.has_left("free", self.family) and self.all.is_moved(item, directory)
@@ -928,7 +946,8 @@ class Actor:
             if old not in self.entered or not self.can(old, MARK, WRITE):
                 continue
             needs = [*self.written(old), (ENTRY, old, item), *self.marked(item), *self.written(directory), *self.fitting(item, directory)]
-            if self.kinds[item] is Kind.DIRECTORY and old != directory and moved:
+            alone = self.kinds[item] is Kind.DIRECTORY or self.frees_label_of(old, directory)
+            if alone and old != directory and moved:
                 yield self.step(("rename", old, item, directory, None), needs, [(ENTRY, directory, item)])
             for name in names:
                 yield from self.replacing(item, old, directory, name, needs)
