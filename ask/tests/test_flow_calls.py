@@ -71,6 +71,8 @@ WAYS = [
     Way("a label is lowered once no high directory has the object", 'dir / 0777 20 20 low\ndir /d 0711 10 10 high\n'
         'file /d/a 0444 10 10 high "secret"\nproc low 10 10 - "cap_mac_write,cap_mac_downgrade=ep"\nproc high 10 10 - "cap_mac_write=ep"\n',
         "/d/a", "1@low", ["rename /d/a /copy1", "mac_set_file /copy1 low", "open /copy1 r", "read 0 6"]),
+    Way("a file with the set-group-ID bit gets another group", 'dir / 0755 0 0 low\nfile /a 2060 20 30 low "secret"\n'
+        'proc low 10 20 - "="\nproc low 11 30 - "cap_chown=ep"\n', "/a", "1@low", ["chown /a 0 20", "open /a r", "read 0 6"]),
 ]
 
 

@@ -756,10 +756,14 @@ class Actor:
             return
         if self.has(Cap.CHOWN):
             makes = [(OWNER, item, user) for user in self.all.users] + [(GROUP, item, group) for group in self.all.groups]
-            yield self.step(("chown", item), needs, makes)
+            yield self.step(("chown", item), needs, [*makes, *self.cleared(item)])
         elif self.can_own(item):
             makes = [(GROUP, item, group) for group in self.credentials.groups[1] | set(self.credentials.others)]
-            yield self.step(("chown", item), [*needs, *self.owner(item)], makes)
+            yield self.step(("chown", item), [*needs, *self.owner(item)], [*makes, *self.cleared(item)])
+
+    def cleared(self, item: int) -> List[Fact]:
+        """The modes of an object without the set-ID bits, which a new owner, a new group and new content clear."""
+        return [(MODE, item, mode & ~rules.SET_ID) for mode in self.all.values[MODE, item] if mode & rules.SET_ID]
 
     def can_own(self, item: int) -> bool:
         """Whether an object can be this one's own."""
@@ -820,7 +824,7 @@ class Actor:
         heard = not stream or (HEARD, item) in self.all.facts
         if how == "w" and self.due("write", item) and holds in self.all.facts and heard and self.can(item, MARK):
             needs = [holds, opened, *self.conditions(item, MARK), *([(HEARD, item)] if stream else [])]
-            yield self.own_step(("write", item), needs, [(TAINT, item)])
+            yield self.own_step(("write", item), needs, [(TAINT, item), *self.cleared(item)])
 
     def on_descriptor(self, item: int) -> Iterator[Step]:
         """Changing an object that is open."""
