@@ -73,6 +73,9 @@ WAYS = [
         "/d/a", "1@low", ["rename /d/a /copy1", "mac_set_file /copy1 low", "open /copy1 r", "read 0 6"]),
     Way("a file with the set-group-ID bit gets another group", 'dir / 0755 0 0 low\nfile /a 2060 20 30 low "secret"\n'
         'proc low 10 20 - "="\nproc low 11 30 - "cap_chown=ep"\n', "/a", "1@low", ["chown /a 0 20", "open /a r", "read 0 6"]),
+    Way("the directories of the path TO are made anew", 'dir / 0755 10 10 low\ndir /d 0755 30 30 low\ndir /d/e 0700 30 30 high\n'
+        'file /d/e/b 0600 30 30 high "letter"\nfile /a 0700 10 10 low "secret"\nproc low 10 10 - "="\n', "/a", "/d/e/b",
+        ["rename /d /copy1", "mkdir /d 0777", "mkdir /d/e 0777", "link /a /d/e/b"]),
 ]
 
 

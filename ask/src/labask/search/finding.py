@@ -1,7 +1,7 @@
 """Looks for a shortest script in the states of the model."""
 import enum
 from dataclasses import dataclass
-from typing import Any, Callable, Dict, FrozenSet, Iterator, List, NamedTuple, Optional, Sequence, Tuple
+from typing import Any, Callable, Dict, FrozenSet, Iterator, List, NamedTuple, Optional, Sequence, Set, Tuple
 
 from labask.kernel import rules
 from labask.kernel.calls import MOST_FILE_BYTES, Call, Path, play
@@ -439,9 +439,21 @@ class Instances:
         return next(each for each in (b"copy%d" % count for count in range(1, 70_000)) if each not in taken and
                     each not in self.search.problem.names)
 
+    def on_path(self, name: Optional[bytes]) -> Set[Number]:
+        """The directories on the path TO in which it goes on with a name."""
+        found: Set[Number] = set()
+        here: Optional[Number] = self.state.root
+        for each in self.search.problem.names:
+            if here is None:
+                break
+            found |= {here} if each == name else set()
+            here = self.state.names.get(here, {}).get(each)
+        return found
+
     def new_path(self, who: Number, item: int, name: Optional[bytes]) -> Optional[Path]:
-        """The path of a new name in a directory."""
-        for directory in self.things(item):
+        """The path of a new name in a directory; of a name of the path TO in one on that path, where there is one."""
+        on_path = self.on_path(name)
+        for directory in sorted(self.things(item), key=lambda number: number not in on_path):
             path = self.path(who, directory, True)
             if path is not None:
                 return Path(path.absolute, (*path.names, self.new_name(directory, name)))
