@@ -1,85 +1,79 @@
--- Worlds in which no process may ever have one of the five capabilities over labels.
-use Rattle.std.specs.Prelude.{◌≡◌, true, false, List, [], ◌∷◌, refl, cond}
-use Rattle.std.specs.List.{flat_map}
-use Rattle.std.proofs.Common.{sym, ◌∙◌, ap}
-use Rattle.std.proofs.lemmas.Bool.{and_from, and_left, false_from_ne_true, or_from, or_left, or_parts, or_right, true≢false}
-use Rattle.std.proofs.lemmas.List.Folds.{list_any-append}
-use Rattle.cap_bits.specs.CapSet.{CapSet, has, is_within, no_caps, with_cap}
-use Rattle.cap_bits.specs.Laws.{within-has}
+-- Worlds in which no process may ever have one of the five capabilities over labels: nothing crosses any label there.
+use Rattle.std.specs.Prelude.{◌≡◌, ◌&&◌, not, Bool, true, false, List, [], ◌∷◌, refl}
+use Rattle.std.specs.List.{AllByRecursion, list_all, list_any}
+use Rattle.std.proofs.Common.{sym, ◌∙◌}
+use Rattle.std.proofs.lemmas.Bool.{and_from, and_parts, and_right, false_from_ne_true, not_from_false, or_from, or_right, true≢false}
+use Rattle.cap_bits.specs.CapSet.{has, is_within, no_caps, union_of}
+use Rattle.cap_bits.specs.FileCaps.{shown}
+use Rattle.cap_bits.specs.Laws.{has-within, within-has}
 use Rattle.cap_bits.specs.declared.cap.Cap.{Cap}
 use Rattle.cap_bits.specs.declared.cap.Cap.TheVariants as cap
-use Rattle.cap_bits.proofs.CapSets.{has-meet_of, has-no_caps, has-with_cap, same_cap-decides}
-use Rattle.lab_lattice.specs.Label.{Label}
-use Rattle.kern_model.specs.declared.records.Rec.{Rec}
-use Rattle.kern_model.specs.declared.records.Rec.TheVariants as rec
-use Rattle.kern_model.specs.declared.world.ScriptItem.{ScriptItem}
+use Rattle.cap_bits.proofs.CapSets.{has-no_caps, has-union_of}
+use Rattle.lab_lattice.specs.Label.{Label, dominates}
 use Rattle.kern_model.specs.declared.world.World.{World}
-use Rattle.kern_model.specs.Boot.{boot, boot_recs}
-use Rattle.kern_model.specs.Isolation.{any_crosses, crosses, is_mac, up_to}
-use Rattle.kern_model.specs.Lineage.{all_recs}
-use Rattle.kern_model.specs.Run.{CallRecord, run}
-use Rattle.iso_laws.specs.Unnamed.{IsUnnamed, is_exercise_of}
-use Rattle.iso_laws.proofs.Laws.{isolated_whole, two_worlds_same}
-use Rattle.ever_caps.specs.Ever.{ever, mac_caps, mac_ever}
-use Rattle.ever_caps.specs.Laws.{ConfinedAlone, ConfinedInside, ConfinedWorlds}
-use Rattle.ever_caps.proofs.EverRuns.{never_exercised}
+use Rattle.kern_model.specs.declared.world.WorldObject.{WorldObject}
+use Rattle.kern_model.specs.declared.world.WorldProc.{WorldProc}
+use Rattle.kern_model.specs.Exec.{exec_permitted}
+use Rattle.ever_caps.specs.Ever.{all_files, all_processes, ever, mac_ever}
+use Rattle.ever_caps.specs.Laws.{ConfinedAlone, ConfinedInside, ConfinedUncrossed, ConfinedWorlds}
+use Rattle.ever_caps.specs.Uncrossed.{gives_below, is_above, may_have, only_above, upward_caps}
+use Rattle.ever_caps.proofs.Crossings.{mac_never}
+use Rattle.ever_caps.proofs.EverRuns.{HasToo, given, held, together}
+use Rattle.ever_caps.proofs.Kept.{has-exec_permitted}
+use Rattle.ever_caps.proofs.States.{all_weaker}
+use Rattle.ever_caps.proofs.UncrossedRuns.{uncrossed_alone, uncrossed_inside, uncrossed_worlds}
 
--- ---- the five capabilities
-now_in : (a : CapSet) (c : Cap) → has (with_cap a c) c ≡ true
-now_in a c = has-with_cap a c c ∙ or_left _ _ ((same_cap-decides c c).1 refl)
+all_pass : {X : Type 0} (test : X → Bool) (xs : List X) → AllByRecursion (λ x. test x ≡ true) xs → list_all test xs ≡ true
+all_pass test [] h = refl
+all_pass test (x ∷ xs) h = and_from (test x) (list_all test xs) h.0 (all_pass test xs h.1)
 
-still_in : (a : CapSet) (other c : Cap) → has a c ≡ true → has (with_cap a other) c ≡ true
-still_in a other c h = has-with_cap a other c ∙ or_right _ _ h
+none_pass : {X : Type 0} (test : X → Bool) (xs : List X) → AllByRecursion (λ x. test x ≡ false) xs → list_any test xs ≡ false
+none_pass test [] h = refl
+none_pass test (x ∷ xs) h = or_from (test x) (list_any test xs) h.0 (none_pass test xs h.1)
 
-mac_in : (c : Cap) → is_mac c ≡ true → has mac_caps c ≡ true
-mac_in cap.MacDowngrade h = still_in _ _ _ (still_in _ _ _ (still_in _ _ _ (still_in _ _ _ (now_in _ _))))
-mac_in cap.MacRead h = still_in _ _ _ (still_in _ _ _ (still_in _ _ _ (now_in _ _)))
-mac_in cap.MacRelabelSubj h = still_in _ _ _ (still_in _ _ _ (now_in _ _))
-mac_in cap.MacUpgrade h = still_in _ _ _ (now_in _ _)
-mac_in cap.MacWrite h = now_in _ _
-mac_in c h = absurd (true≢false (sym h))
+module _ (c : Cap) (w : World) (never : has (ever w) c ≡ false) where
+  never_given : (p : WorldProc) → HasToo c p.caps (all_processes w) → (o : WorldObject) → HasToo c (shown o.attr.caps) (all_files w) → gives_below c w p o ≡ false
+  never_given p process o file =
+      and_right (dominates p.label o.label) (has (exec_permitted p.caps (shown o.attr.caps) w.bound) c)
+      (has-exec_permitted p.caps (shown o.attr.caps) w.bound c
+      ∙ or_from (has o.attr.caps.p c && has w.bound c) (has o.attr.caps.i c && has p.caps.i c)
+      (false_from_ne_true _ (λ t. let both = and_parts (has o.attr.caps.p c) (has w.bound c) t in true≢false (sym (and_from _ _ (file.p both.0) both.1) ∙ (given c w never).0)))
+      (false_from_ne_true _ (λ t.
+      let both = and_parts (has o.attr.caps.i c) (has p.caps.i c) t in
+      true≢false (sym (and_from _ _ (file.i both.0) (process.i both.1)) ∙ (given c w never).1))))
 
--- where those of the five that are ever had are among some, no other one is ever had
-pub mac_never : (w : World) (some : CapSet) → is_within (mac_ever w) some ≡ true → (c : Cap) → is_mac c ≡ true → has some c ≡ false → has (ever w) c ≡ false
-mac_never w some within c mac other =
-    false_from_ne_true _
-    (λ h. true≢false (sym (within-has (mac_ever w) some within c (has-meet_of mac_caps (ever w) c ∙ and_from _ _ (mac_in c mac) h)) ∙ other))
+  never_may : (p : WorldProc) → HasToo c p.caps (all_processes w) → may_have c w p ≡ false
+  never_may p process =
+      or_from (has (union_of p.caps.e p.caps.p) c) (list_any (gives_below c w p) w.objects)
+      (has-union_of p.caps.e p.caps.p c
+      ∙ or_from (has p.caps.e c) (has p.caps.p c) (false_from_ne_true _ (λ t. true≢false (sym (process.e t) ∙ (held c w never).0)))
+      (false_from_ne_true _ (λ t. true≢false (sym (process.p t) ∙ (held c w never).1))))
+      (none_pass (gives_below c w p) w.objects
+      (all_weaker (λ (o : WorldObject). HasToo c (shown o.attr.caps) (all_files w)) (λ o. gives_below c w p o ≡ false) (never_given p process) w.objects
+      (together c (λ (o : WorldObject). shown o.attr.caps) w.objects)))
 
--- ---- what crosses nothing
-module _ (l : Label) where
-  one_inside : (r : Rec) → ((c : Cap) → is_mac c ≡ true → is_exercise_of c r ≡ false) → crosses l r ≡ false
-  one_inside (rec.Exercise e) h =
-      and_left (is_mac e.cap) _ (false_from_ne_true (is_mac e.cap) (λ mac. true≢false (sym ((same_cap-decides e.cap e.cap).1 refl) ∙ h e.cap mac)))
-  one_inside r h = refl
+  never_above : (l : Label) → only_above l c w ≡ true
+  never_above l =
+      all_pass _ w.procs
+      (all_weaker (λ (p : WorldProc). HasToo c p.caps (all_processes w)) _
+      (λ p process. or_right (is_above p.label l) (not (may_have c w p)) (not_from_false (may_have c w p) (never_may p process))) w.procs
+      (together c (λ (p : WorldProc). p.caps) w.procs))
 
-  -- records of which none is an exercise of one of the five cross nothing
-  all_inside : (recs : List Rec) → ((c : Cap) → is_mac c ≡ true → IsUnnamed c recs) → any_crosses l recs ≡ false
-  all_inside [] h = refl
-  all_inside (r ∷ recs) h =
-      or_from (crosses l r) (any_crosses l recs) (one_inside r (λ c mac. (or_parts (is_exercise_of c r) _ (h c mac)).0))
-      (all_inside recs (λ c mac. (or_parts (is_exercise_of c r) _ (h c mac)).1))
-
-  -- where no record of a run crosses, no call does
-  calls_inside : (ps : List CallRecord) → any_crosses l (flat_map (λ (p : CallRecord). p.recs) ps) ≡ false → up_to l ps ≡ ps
-  calls_inside [] h = refl
-  calls_inside (p ∷ ps) h =
-      let parts = or_parts (any_crosses l p.recs) (any_crosses l (flat_map (λ (p : CallRecord). p.recs) ps)) (sym (list_any-append (crosses l) p.recs _) ∙ h) in
-      ap (λ b. cond b [] (p ∷ up_to l ps)) parts.0 ∙ ap (λ qs. p ∷ qs) (calls_inside ps parts.1)
-
-  pub run_inside : (w : World) (items : List ScriptItem) → any_crosses l (all_recs w items) ≡ false → up_to l (run (boot w) items) ≡ run (boot w) items
-  run_inside w items h =
-      calls_inside (run (boot w) items)
-      (or_parts (any_crosses l (boot_recs w)) (any_crosses l (flat_map (λ (p : CallRecord). p.recs) (run (boot w) items)))
-      (sym (list_any-append (crosses l) (boot_recs w) _) ∙ h)).1
+pub confined_uncrossed : ConfinedUncrossed
+confined_uncrossed l w confined =
+    let above : (c : Cap) → has (ever w) c ≡ false → only_above l c w ≡ true = λ c never. never_above c w never l in
+    and_from (is_within (mac_ever w) upward_caps && only_above l cap.MacRead w) (only_above l cap.MacUpgrade w)
+    (and_from (is_within (mac_ever w) upward_caps) (only_above l cap.MacRead w)
+    (has-within (mac_ever w) upward_caps (λ q h. absurd (true≢false (sym (within-has (mac_ever w) no_caps confined q h) ∙ has-no_caps q))))
+    (above cap.MacRead (mac_never w no_caps confined cap.MacRead refl (has-no_caps cap.MacRead))))
+    (above cap.MacUpgrade (mac_never w no_caps confined cap.MacUpgrade refl (has-no_caps cap.MacUpgrade)))
 
 pub confined_inside : ConfinedInside
-confined_inside l w items confined =
-    all_inside l (all_recs w items) (λ c mac. never_exercised c w items (mac_never w no_caps confined c mac (has-no_caps c)))
+confined_inside l w items confined = uncrossed_inside l w items (confined_uncrossed l w confined)
 
 pub confined_alone : ConfinedAlone
-confined_alone l w items world script confined = isolated_whole l w items world script (run_inside l w items (confined_inside l w items confined))
+confined_alone l w items world script confined = uncrossed_alone l w items world script (confined_uncrossed l w confined)
 
 pub confined_worlds : ConfinedWorlds
 confined_worlds l w v is js world world' script script' same same_script confined confined' =
-    two_worlds_same l w v is js world world' script script' same same_script (run_inside l w is (confined_inside l w is confined))
-    (run_inside l v js (confined_inside l v js confined'))
+    uncrossed_worlds l w v is js world world' script script' same same_script (confined_uncrossed l w confined) (confined_uncrossed l v confined')

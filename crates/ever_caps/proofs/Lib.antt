@@ -7,7 +7,7 @@ pub mod Absent
 pub mod Among
 pub mod EverRuns
 pub mod Sources
-pub mod ConfinedRuns
+pub mod Crossings
 pub mod Callers
-pub mod ConfinedLabels
 pub mod UncrossedRuns
+pub mod ConfinedRuns

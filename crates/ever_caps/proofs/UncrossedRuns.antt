@@ -40,7 +40,7 @@ use Rattle.ever_caps.specs.Uncrossed.{gives_below, is_above, may_have, only_abov
 use Rattle.ever_caps.proofs.Absent.{absent_step}
 use Rattle.ever_caps.proofs.Among.{IsAmong, all_at, each_among, none_at}
 use Rattle.ever_caps.proofs.Callers.{IsCaller, IsOther, above_up, all_left_inside, downgrade_is_other, relabel_is_other, same_labels, write_is_other}
-use Rattle.ever_caps.proofs.ConfinedRuns.{mac_never, run_inside}
+use Rattle.ever_caps.proofs.Crossings.{mac_never, run_inside}
 use Rattle.ever_caps.proofs.EverRuns.{never_boot}
 use Rattle.ever_caps.proofs.Kept.{IsFair, OfFile, OfProcess, has-exec_permitted, is_kept, rule_holds_without}
 use Rattle.ever_caps.proofs.Meets.{IsGranted}

@@ -1,4 +1,4 @@
-use Rattle.ever_caps.proofs.ConfinedLabels.{confined_uncrossed}
+use Rattle.ever_caps.proofs.ConfinedRuns.{confined_uncrossed}
 use Rattle.ever_caps.proofs.UncrossedRuns.{uncrossed_alone, uncrossed_inside, uncrossed_worlds}
 use Rattle.ever_caps.proofs.uncrossed.Goals as goal
 
