@@ -1,25 +1,23 @@
 -- What is not in the set of a world is absent from each of its states, and exercised in no record.
-use Rattle.std.specs.Prelude.{◌≡◌, ◌&&◌, true, false, List, [], ◌∷◌, ◌++◌, refl}
-use Rattle.std.specs.List.{AllByRecursion, flat_map, list_any}
+use Rattle.std.specs.Prelude.{◌≡◌, ◌&&◌, true, false, List, [], ◌∷◌, refl}
+use Rattle.std.specs.List.{AllByRecursion}
 use Rattle.std.proofs.Common.{sym, ◌∙◌}
-use Rattle.std.proofs.lemmas.Bool.{and_from, and_parts, false_from_ne_true, or_from, or_left, or_parts, or_right, true≢false}
-use Rattle.std.proofs.lemmas.List.Folds.{list_any-append}
+use Rattle.std.proofs.lemmas.Bool.{and_from, and_parts, false_from_ne_true, or_left, or_parts, or_right, true≢false}
 use Rattle.cap_bits.specs.CapSet.{has, union_of}
 use Rattle.cap_bits.specs.FileCaps.{shown}
 use Rattle.cap_bits.specs.declared.cap.Cap.{Cap}
 use Rattle.cap_bits.specs.declared.state.CapState.{CapState}
 use Rattle.cap_bits.proofs.CapSets.{has-union_of}
-use Rattle.kern_model.specs.declared.records.Rec.{Rec}
 use Rattle.kern_model.specs.declared.world.ScriptItem.{ScriptItem}
 use Rattle.kern_model.specs.declared.world.World.{World}
 use Rattle.kern_model.specs.declared.world.WorldObject.{WorldObject}
 use Rattle.kern_model.specs.declared.world.WorldProc.{WorldProc}
-use Rattle.kern_model.specs.Boot.{boot, boot_process, boot_recs, boot_recs_from, objects_loaded}
+use Rattle.kern_model.specs.Boot.{boot}
 use Rattle.kern_model.specs.Exec.{exec_permitted}
-use Rattle.kern_model.specs.Run.{CallRecord, run, state_after_run}
+use Rattle.kern_model.specs.Run.{state_after_run}
 use Rattle.kern_model.specs.State.{State}
 use Rattle.kern_model.specs.Step.{step}
-use Rattle.iso_laws.specs.Unnamed.{IsUnnamed, is_exercise_of}
+use Rattle.iso_laws.specs.Unnamed.{is_exercise_of}
 use Rattle.iso_laws.proofs.Booting.{fixed_booted}
 use Rattle.iso_laws.proofs.Part.{bound-apply_change}
 use Rattle.ever_caps.specs.Absent.{IsAbsent}
@@ -27,6 +25,7 @@ use Rattle.ever_caps.specs.Ever.{all_files, all_processes, ever, join, joined}
 use Rattle.ever_caps.specs.Laws.{NeverBoot, NeverEnd, NeverExercised}
 use Rattle.ever_caps.proofs.Absent.{Files, Processes, absent_from, absent_step, absent_unnamed}
 use Rattle.ever_caps.proofs.Kept.{has-exec_permitted}
+use Rattle.ever_caps.proofs.Recorded.{none_recorded}
 use Rattle.ever_caps.proofs.States.{all_weaker, boot_sets}
 
 -- ---- what several have together
@@ -118,20 +117,6 @@ absent_run c (i ∷ is) s absent = absent_run c is (step s i.who i.call).state (
 pub never_end : NeverEnd
 never_end c w items never = absent_run c items (boot w) (booted c w never)
 
-unnamed-append : (c : Cap) (xs ys : List Rec) → IsUnnamed c xs → IsUnnamed c ys → IsUnnamed c (xs ++ ys)
-unnamed-append c xs ys h g = list_any-append (is_exercise_of c) xs ys ∙ or_from (list_any (is_exercise_of c) xs) (list_any (is_exercise_of c) ys) h g
-
-run_unnamed : (c : Cap) (items : List ScriptItem) (s : State) → IsAbsent c s → IsUnnamed c (flat_map (λ (p : CallRecord). p.recs) (run s items))
-run_unnamed c [] s absent = refl
-run_unnamed c (i ∷ is) s absent =
-    unnamed-append c (step s i.who i.call).recs _ (absent_unnamed c s i.who i.call absent)
-    (run_unnamed c is (step s i.who i.call).state (absent_step c s i.who i.call absent))
-
--- no record of a start is an exercise
-start_unnamed : (c : Cap) (ws : List WorldProc) (s : State) → IsUnnamed c (boot_recs_from s ws)
-start_unnamed c [] s = refl
-start_unnamed c (w ∷ ws) s = start_unnamed c ws (boot_process s w)
-
 pub never_exercised : NeverExercised
 never_exercised c w items never =
-    unnamed-append c (boot_recs w) _ (start_unnamed c w.procs (objects_loaded w)) (run_unnamed c items (boot w) (booted c w never))
+    none_recorded (is_exercise_of c) (λ who label caps. refl) (IsAbsent c) (absent_step c) (absent_unnamed c) w items (booted c w never)

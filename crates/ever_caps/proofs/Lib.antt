@@ -5,6 +5,7 @@ pub mod States
 pub mod Kept
 pub mod Absent
 pub mod Among
+pub mod Recorded
 pub mod EverRuns
 pub mod Sources
 pub mod Crossings

@@ -1,10 +1,9 @@
 -- Worlds in which only processes with labels strictly above one may come to have cap_mac_read and cap_mac_upgrade, and none another of the five capabilities over labels.
-use Rattle.std.specs.Prelude.{◌≡◌, ◌&&◌, ◌||◌, not, Bool, true, false, List, [], ◌∷◌, ◌++◌, Some, refl, cond}
-use Rattle.std.specs.List.{AllByRecursion, flat_map, list_any}
+use Rattle.std.specs.Prelude.{◌≡◌, ◌&&◌, ◌||◌, not, Bool, true, false, Some, refl, cond}
+use Rattle.std.specs.List.{AllByRecursion, list_any}
 use Rattle.std.specs.FinMap as map
 use Rattle.std.proofs.Common.{sym, ◌∙◌, ap, subst, inl, inr}
-use Rattle.std.proofs.lemmas.Bool.{and_from, and_parts, false_from_ne_true, not-true, or_cases, or_from, or_parts, true≢false}
-use Rattle.std.proofs.lemmas.List.Folds.{list_any-append}
+use Rattle.std.proofs.lemmas.Bool.{and_from, and_parts, false_from_ne_true, not-true, or_cases, or_parts, true≢false}
 use Rattle.cap_bits.specs.CapSet.{has, is_within, union_of}
 use Rattle.cap_bits.specs.FileCaps.{shown}
 use Rattle.cap_bits.specs.declared.cap.Cap.{Cap}
@@ -17,16 +16,13 @@ use Rattle.kern_model.specs.declared.calls.Call.{Call}
 use Rattle.kern_model.specs.declared.checks.Place.{Place}
 use Rattle.kern_model.specs.declared.numbers.Oid.{Oid}
 use Rattle.kern_model.specs.declared.numbers.Pid.{Pid}
-use Rattle.kern_model.specs.declared.records.Rec.{Rec}
-use Rattle.kern_model.specs.declared.world.ScriptItem.{ScriptItem}
 use Rattle.kern_model.specs.declared.world.World.{World}
 use Rattle.kern_model.specs.declared.world.WorldObject.{WorldObject}
 use Rattle.kern_model.specs.declared.world.WorldProc.{WorldProc}
-use Rattle.kern_model.specs.Boot.{boot, boot_process, boot_recs, boot_recs_from, objects_loaded}
+use Rattle.kern_model.specs.Boot.{boot}
 use Rattle.kern_model.specs.Exec.{exec_permitted}
 use Rattle.kern_model.specs.Isolation.{any_crosses, crosses}
 use Rattle.kern_model.specs.Rules.{mac_downgrade_of, mac_read, mac_subject, mac_upgrade_of, mac_write, same_label}
-use Rattle.kern_model.specs.Run.{CallRecord, run}
 use Rattle.kern_model.specs.State.{State, Process, object_at}
 use Rattle.kern_model.specs.Step.{step, subject}
 use Rattle.iso_laws.proofs.Booting.{fixed_booted}
@@ -44,12 +40,9 @@ use Rattle.ever_caps.proofs.Crossings.{mac_never, run_inside}
 use Rattle.ever_caps.proofs.EverRuns.{never_boot}
 use Rattle.ever_caps.proofs.Kept.{IsFair, OfFile, OfProcess, has-exec_permitted, is_kept, rule_holds_without}
 use Rattle.ever_caps.proofs.Meets.{IsGranted}
+use Rattle.ever_caps.proofs.Recorded.{none_recorded}
 use Rattle.ever_caps.proofs.Rows.{IsKept}
 use Rattle.ever_caps.proofs.States.{AllSets, boot_sets, step_left, step_sets}
-
--- records of two lists that cross nothing
-inside-append : (l : Label) (xs ys : List Rec) → any_crosses l xs ≡ false → any_crosses l ys ≡ false → any_crosses l (xs ++ ys) ≡ false
-inside-append l xs ys h g = list_any-append (crosses l) xs ys ∙ or_from (any_crosses l xs) (any_crosses l ys) h g
 
 -- what a caller without cap_mac_write writes has its label
 written_label : {l : Label} (s : State) (who : Pid) (p : Process) → IsCaller l p → (id : Oid) (place : Place) → IsGranted (subject who p) (mac_write s p id place)
@@ -228,12 +221,6 @@ module _ (l : Label) (w : World) where
           (step_left (Processes cap.MacRead) (Files cap.MacRead) s reached.reading who p
           (kept cap.MacRead readers s reached.same_bound reached.reading who p is (is_caller p is)) called))
 
-    steps_inside : (items : List ScriptItem) (s : State) → IsReached s → any_crosses l (flat_map (λ (p : CallRecord). p.recs) (run s items)) ≡ false
-    steps_inside [] s reached = refl
-    steps_inside (i ∷ is) s reached =
-        inside-append l (step s i.who i.call).recs _ (step_inside s reached i.who i.call)
-        (steps_inside is (step s i.who i.call).state (next_reached s reached i.who i.call))
-
     first_reached : is_within (mac_ever w) upward_caps ≡ true → IsReached (boot w)
     first_reached within = record {
       same_bound = fixed_booted (λ s. s.bound) bound-apply_change w;
@@ -242,16 +229,13 @@ module _ (l : Label) (w : World) where
       absent = λ c other. never_boot c w (mac_never w upward_caps within c other.0 other.1);
     }
 
--- no record of a start crosses
-start_inside : (l : Label) (ws : List WorldProc) (s : State) → any_crosses l (boot_recs_from s ws) ≡ false
-start_inside l [] s = refl
-start_inside l (w ∷ ws) s = start_inside l ws (boot_process s w)
-
 pub uncrossed_inside : UncrossedInside
 uncrossed_inside l w items uncrossed =
     let parts = and_parts (is_within (mac_ever w) upward_caps && only_above l cap.MacRead w) (only_above l cap.MacUpgrade w) uncrossed in
     let first = and_parts (is_within (mac_ever w) upward_caps) (only_above l cap.MacRead w) parts.0 in
-    inside-append l (boot_recs w) _ (start_inside l w.procs (objects_loaded w)) (steps_inside l w first.1 parts.1 items (boot w) (first_reached l w first.1 parts.1 first.0))
+    none_recorded (crosses l) (λ who label caps. refl) (IsReached l w first.1 parts.1)
+    (λ s who called reached. next_reached l w first.1 parts.1 s reached who called)
+    (λ s who called reached. step_inside l w first.1 parts.1 s reached who called) w items (first_reached l w first.1 parts.1 first.0)
 
 pub uncrossed_alone : UncrossedAlone
 uncrossed_alone l w items world script uncrossed = isolated_whole l w items world script (run_inside l w items (uncrossed_inside l w items uncrossed))
