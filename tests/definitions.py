@@ -18,8 +18,8 @@ CRATES = TOP / "crates"
 RUN = CRATES / "labsys" / "src" / "running.rt"
 USE = re.compile(r"^\s*(?:ghost )?(?:pub )?use Rattle\.(\w+)\.specs\.([\w.]+?)(?:\.\{([^}]*)\})?(?: as (\w+))?;?$", re.M)
 HEAD = re.compile(r"^(\s*)(?:(?:unfoldable|abbrev|pub) )*(?:(record|data) (\S+)|(\S+) :(?= ))")
-OF_OTHERS = {"Schedules", "Views", "Upgrades", "Narrows", "ChecksLineage"}
-CASE_OF_OTHERS = re.compile(r"^\w+ (?:\(Some )?\(?(?:Sched|Check|Gen|Drill|View|Upgrade|Least|Select)\b")
+OF_OTHERS = {"Schedules", "Views", "Upgrades", "Narrows", "SaysNever", "ChecksLineage"}
+CASE_OF_OTHERS = re.compile(r"^\w+ (?:\(Some )?\(?(?:Sched|Check|Gen|Drill|View|Upgrade|Least|Never|Select)\b")
 NAME = re.compile(r"[\w'◌-]+(?:\.[\w'-]+)*")
 
 

@@ -9,6 +9,7 @@ pub mod Recorded
 pub mod EverRuns
 pub mod Sources
 pub mod Crossings
+pub mod Leaving
 pub mod Callers
 pub mod UncrossedRuns
 pub mod ConfinedRuns

@@ -36,13 +36,21 @@ ever w = union_of (union_of (all_processes w).e (all_processes w).p) (exec_permi
 abbrev pub mac_caps : CapSet
 mac_caps = with_cap (with_cap (with_cap (with_cap (with_cap no_caps cap.MacDowngrade) cap.MacRead) cap.MacRelabelSubj) cap.MacUpgrade) cap.MacWrite
 
--- those of the five that a process has effective or permitted
-abbrev pub mac_held : WorldProc → CapSet
-mac_held p = meet_of mac_caps (union_of p.caps.e p.caps.p)
+-- those of the five that a process with these sets has effective or permitted
+abbrev pub mac_in : CapState → CapSet
+mac_in caps = meet_of mac_caps (union_of caps.e caps.p)
 
--- those of the five that a file gives to some process or other, by the exec formula
+-- those that a process of a world has
+abbrev pub mac_held : WorldProc → CapSet
+mac_held p = mac_in p.caps
+
+-- those of the five that a file gives to a process with these sets, by the exec formula
+abbrev pub mac_given_to : CapState → CapSet → WorldObject → CapSet
+mac_given_to caps bound o = meet_of mac_caps (exec_permitted caps (shown o.attr.caps) bound)
+
+-- those that a file of a world gives to some process or other
 abbrev pub mac_given : World → WorldObject → CapSet
-mac_given w o = meet_of mac_caps (exec_permitted (all_processes w) (shown o.attr.caps) w.bound)
+mac_given w o = mac_given_to (all_processes w) w.bound o
 
 -- those of the five that a process may ever have
 abbrev pub mac_ever : World → CapSet

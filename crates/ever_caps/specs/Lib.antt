@@ -1,4 +1,5 @@
 pub mod Absent
+pub mod Crossing
 pub mod Ever
 pub mod Laws
 pub mod Uncrossed

@@ -10,8 +10,8 @@ ghost use Rattle.ever_caps.specs.Laws.{ConfinedAlone, ConfinedInside, ConfinedUn
 mod labels;
 mod sets;
 
-pub use labels::{is_uncrossed, may_have};
-pub use sets::{ever, is_confined, mac_ever, mac_given, mac_held};
+pub use labels::Crossers;
+pub use sets::{all_processes, ever, is_confined, mac_ever, mac_given_to, mac_in};
 
 /// A capability that no process has effective or permitted, that no file permits within the bound, and that is not both
 /// inheritable of a process and inheritable of a file, stays so over each step, and no record of the step is an exercise of it.

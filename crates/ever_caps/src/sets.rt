@@ -2,7 +2,7 @@
 ghost use Rattle.std.specs.Prelude.{◌≡◌};
 ghost use Rattle.cap_bits.specs.FileCaps.{shown};
 ghost use Rattle.kern_model.specs.Exec.{exec_permitted};
-ghost use Rattle.ever_caps.specs.Ever.{all_files, all_processes, ever, is_confined, join, joined, mac_caps, mac_ever, mac_given, mac_held};
+ghost use Rattle.ever_caps.specs.Ever.{all_files, all_processes, ever, is_confined, join, joined, mac_caps, mac_ever, mac_given_to, mac_in};
 
 use cap_bits::{Cap, CapSet, CapState};
 use kern_model::{World, WorldObject, WorldProc};
@@ -40,8 +40,8 @@ fn files_joined(objects: &[WorldObject]) -> CapState
     together
 }
 
-// What all processes of a world have together.
-fn all_processes(world: &World) -> CapState
+/// What all processes of a world have together.
+pub fn all_processes(world: &World) -> CapState
     ensures { result ≡ all_processes world.now }
 {
     processes_joined(world.procs.items())
@@ -85,22 +85,18 @@ fn mac_caps() -> CapSet
         .with(Cap::MacWrite)
 }
 
-/// Those of the five capabilities over labels that a process has effective or permitted.
-pub fn mac_held(process: &WorldProc) -> CapSet
-    ensures { result ≡ mac_held process.now }
+/// Those of the five capabilities over labels that a process with these sets has effective or permitted.
+pub fn mac_in(caps: &CapState) -> CapSet
+    ensures { result ≡ mac_in caps.now }
 {
-    mac_caps().meet(process.caps.e.union(process.caps.p))
+    mac_caps().meet(caps.e.union(caps.p))
 }
 
-/// Those of the five capabilities over labels that a file gives to some process of the world or other.
-pub fn mac_given(world: &World, object: &WorldObject) -> CapSet
-    ensures { result ≡ mac_given world.now object.now }
+/// Those of the five capabilities over labels that a file gives to a process with these sets.
+pub fn mac_given_to(process: &CapState, bound: CapSet, object: &WorldObject) -> CapSet
+    ensures { result ≡ mac_given_to process.now bound object.now }
 {
-    mac_caps().meet(program_permits(
-        &all_processes(world),
-        &object.attr.caps.shown(),
-        world.bound,
-    ))
+    mac_caps().meet(program_permits(process, &object.attr.caps.shown(), bound))
 }
 
 /// Those of the five capabilities over labels that a process may ever have in a world.

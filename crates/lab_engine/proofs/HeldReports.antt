@@ -5,11 +5,9 @@ use Rattle.std.proofs.Math.Logic.{∥∥₁_map}
 use Rattle.io_ends.specs.Ends.{SinkView}
 use Rattle.std.specs.List.{AllByRecursion}
 use Rattle.iso_laws.proofs.AllLemmas.{all-append}
-use Rattle.kern_model.specs.declared.records.Outcome.{Outcome}
 use Rattle.kern_model.specs.declared.records.Rec.{Rec}
 use Rattle.kern_model.specs.Run.{CallRecord}
 use Rattle.lab_text.specs.Policy.{PolicyNames}
-use Rattle.script_text.specs.declared.line.Line.{Line}
 use Rattle.lab_engine.specs.declared.ending.Fault.{Fault}
 use Rattle.lab_engine.specs.declared.reporting.Report.{Report}
 use Rattle.lab_engine.specs.declared.reporting.Report.TheVariants.{All}
@@ -17,11 +15,10 @@ use Rattle.lab_engine.specs.Order.{Sent}
 use Rattle.lab_engine.specs.Playing.{Ends, Sends, SendsAll, StopsBy, ends}
 use Rattle.lab_engine.specs.Readable.{AreReadable, IsReadable}
 use Rattle.lab_engine.specs.Report.{call_sends, report_after, report_after_call, sends_from}
-use Rattle.lab_engine.specs.Reporter.{HoldReports, HoldReportsSince, call_on, calls_seen}
+use Rattle.lab_engine.specs.Reporter.{HoldReports, HoldReportsSince}
 use Rattle.lab_engine.specs.Session.{numbered_from}
 use Rattle.lab_engine.proofs.ReadableLemmas.{with_numbers}
 use Rattle.lab_engine.proofs.ReportLemmas.{all_stays}
-use Rattle.lab_engine.proofs.SeenLemmas.{one_more, only_one}
 use Rattle.lab_engine.proofs.Sending.{all_nothing, sends_more}
 
 -- ---- calls, and those after them
@@ -129,38 +126,35 @@ module _ (policy : PolicyNames) (first now : Report) (seen stopped : List CallRe
 -- ---- from the start on
 
 -- nothing was seen yet
-pub held_new : {K T : Type 0} (f : K → SinkView) (g : T → SinkView) (out : K) (trail : T) (policy : PolicyNames) (r : Report) (none start : List (K × (T × Report))) (seen stopped : List (Line × (ℕ × Outcome)))
+pub held_new : {K T : Type 0} (f : K → SinkView) (g : T → SinkView) (out : K) (trail : T) (policy : PolicyNames) (r : Report) (none start : List (K × (T × Report))) (seen stopped : List CallRecord)
     → start ≡ none ++ (out, (trail, r)) ∷ [] → none ≡ [] → seen ≡ [] → stopped ≡ [] → ∥ HoldReportsSince f g start policy r seen stopped (f out) (g trail) ∥₁
 held_new f g out trail policy r none start seen stopped is new no_call no_stop = rw (is, new, no_call, no_stop) (∣ held_at_start policy r (ends 0 (f out) (g trail)) ∣₁)
 
-module _ {K T : Type 0} (f : K → SinkView) (g : T → SinkView) (start : List (K × (T × Report))) (policy : PolicyNames) (now : Report) (seen stopped : List (Line × (ℕ × Outcome))) (out trail : SinkView) where
-  module _ (none : calls_seen stopped ≡ []) (n : ℕ) (is : n ≡ length (calls_seen seen) + 1) (line : Line) (at : ℕ) (o : Outcome) (now' : Report) (out' trail' : SinkView) where
-    abbrev call : CallRecord
-    call = call_on line at o
+module _ {K T : Type 0} (f : K → SinkView) (g : T → SinkView) (start : List (K × (T × Report))) (policy : PolicyNames) (now now' : Report) (seen stopped : List CallRecord) (out out' trail trail' : SinkView) (none : stopped ≡ []) (n : ℕ) (is : n ≡ length seen + 1) (p : CallRecord)
+    (kept : ∥ HoldReportsSince f g start policy now seen stopped out trail ∥₁) where
+  more_since : (starts : List (K × (T × Report))) (seen' : List CallRecord) → seen' ≡ seen ++ p ∷ [] → now' ≡ report_after_call now p
+      → (now ≡ All → AreReadable policy n p.recs) → SendsAll (call_sends now policy n p) (ends 0 out trail) (ends 0 out' trail') → HoldReportsSince f g starts policy now seen stopped out trail → HoldReportsSince f g starts policy now' seen' stopped out' trail'
+  more_since [] seen' added taken own sends k = k
+  more_since (s ∷ _) seen' added taken own sends k =
+      subst (λ (cs : List CallRecord). HoldReports policy s.1.1 now' cs stopped (ends 0 (f s.0) (g s.1.0)) (ends 0 out' trail')) (sym added)
+      (held_more policy s.1.1 now seen stopped _ _ k none n is p now' _ taken own sends)
 
-    more_since : (starts : List (K × (T × Report))) (seen' : List (Line × (ℕ × Outcome))) → seen' ≡ seen ++ (line, (at, o)) ∷ [] → now' ≡ report_after_call now call
-        → (now ≡ All → AreReadable policy n o.recs) → SendsAll (call_sends now policy n call) (ends 0 out trail) (ends 0 out' trail') → HoldReportsSince f g starts policy now seen stopped out trail → HoldReportsSince f g starts policy now' seen' stopped out' trail'
-    more_since [] seen' added taken own sends k = k
-    more_since (s ∷ _) seen' added taken own sends k =
-        subst (λ (cs : List CallRecord). HoldReports policy s.1.1 now' cs (calls_seen stopped) (ends 0 (f s.0) (g s.1.0)) (ends 0 out' trail')) (sym (one_more seen line at o seen' added))
-        (held_more policy s.1.1 now (calls_seen seen) (calls_seen stopped) _ _ k none n is call now' _ taken own sends)
+  -- a call was reported
+  pub held_seen : (seen' : List CallRecord) → seen' ≡ seen ++ p ∷ [] → now' ≡ report_after_call now p
+      → (now ≡ All → AreReadable policy n p.recs) → SendsAll (call_sends now policy n p) (ends 0 out trail) (ends 0 out' trail') → ∥ HoldReportsSince f g start policy now' seen' stopped out' trail' ∥₁
+  held_seen seen' added taken own sends = ∥∥₁_map kept (more_since start seen' added taken own sends)
 
-    -- a call was reported
-    pub held_seen : (seen' : List (Line × (ℕ × Outcome))) → ∥ HoldReportsSince f g start policy now seen stopped out trail ∥₁ → seen' ≡ seen ++ (line, (at, o)) ∷ [] → now' ≡ report_after_call now call
-        → (now ≡ All → AreReadable policy n o.recs) → SendsAll (call_sends now policy n call) (ends 0 out trail) (ends 0 out' trail') → ∥ HoldReportsSince f g start policy now' seen' stopped out' trail' ∥₁
-    held_seen seen' kept added taken own sends = ∥∥₁_map kept (more_since start seen' added taken own sends)
+  stop_since : (starts : List (K × (T × Report))) (stopped' : List CallRecord) (fault : Fault) → stopped' ≡ p ∷ []
+      → StopsBy fault (call_sends now policy n p) (ends 0 out trail) (ends 0 out' trail') → HoldReportsSince f g starts policy now seen stopped out trail → HoldReportsSince f g starts policy now' seen stopped' out' trail'
+  stop_since [] stopped' fault added stop k = k
+  stop_since (s ∷ _) stopped' fault added stop k =
+      subst (λ (cs : List CallRecord). HoldReports policy s.1.1 now' seen cs (ends 0 (f s.0) (g s.1.0)) (ends 0 out' trail')) (sym added)
+      (held_stop policy s.1.1 now seen stopped _ _ k none n is p now' _ fault stop)
 
-    stop_since : (starts : List (K × (T × Report))) (stopped' : List (Line × (ℕ × Outcome))) (fault : Fault) → stopped' ≡ stopped ++ (line, (at, o)) ∷ []
-        → StopsBy fault (call_sends now policy n call) (ends 0 out trail) (ends 0 out' trail') → HoldReportsSince f g starts policy now seen stopped out trail → HoldReportsSince f g starts policy now' seen stopped' out' trail'
-    stop_since [] stopped' fault added stop k = k
-    stop_since (s ∷ _) stopped' fault added stop k =
-        subst (λ (cs : List CallRecord). HoldReports policy s.1.1 now' (calls_seen seen) cs (ends 0 (f s.0) (g s.1.0)) (ends 0 out' trail')) (sym (only_one stopped line at o stopped' added none))
-        (held_stop policy s.1.1 now (calls_seen seen) (calls_seen stopped) _ _ k none n is call now' _ fault stop)
-
-    -- a fault stopped a call
-    pub held_stopped : (stopped' : List (Line × (ℕ × Outcome))) (fault : Fault) → ∥ HoldReportsSince f g start policy now seen stopped out trail ∥₁ → stopped' ≡ stopped ++ (line, (at, o)) ∷ []
-        → StopsBy fault (call_sends now policy n call) (ends 0 out trail) (ends 0 out' trail') → ∥ HoldReportsSince f g start policy now' seen stopped' out' trail' ∥₁
-    held_stopped stopped' fault kept added stop = ∥∥₁_map kept (stop_since start stopped' fault added stop)
+  -- a fault stopped a call
+  pub held_stopped : (stopped' : List CallRecord) (fault : Fault) → stopped' ≡ p ∷ []
+      → StopsBy fault (call_sends now policy n p) (ends 0 out trail) (ends 0 out' trail') → ∥ HoldReportsSince f g start policy now' seen stopped' out' trail' ∥₁
+  held_stopped stopped' fault added stop = ∥∥₁_map kept (stop_since start stopped' fault added stop)
 
 -- what was written holds of equal names of labels and of equal ends
 pub from_equal : {K T : Type 0} (f : K → SinkView) (g : T → SinkView) (P : PolicyNames → SinkView → SinkView → Type 0) (policy policy' : PolicyNames) (k k' : K) (t t' : T) → policy' ≡ policy → k' ≡ k → t' ≡ t → P policy' (f k') (g t') → P policy (f k) (g t)

@@ -4,6 +4,7 @@ use Rattle.std.proofs.lemmas.List.{append-nil}
 use Rattle.std.specs.Prelude.{Result, Ok, Err, MatchResult, OnOk}
 use Rattle.io_ends.specs.LinesState.{LinesState}
 use Rattle.io_ends.specs.Ends.{SourceView}
+use Rattle.kern_model.specs.declared.numbers.Pid.{Pid}
 use Rattle.kern_model.specs.declared.world.ScriptItem.{ScriptItem}
 use Rattle.kern_model.specs.declared.records.Outcome.{Outcome}
 use Rattle.kern_model.specs.Run.{CallRecord, run, state_after_run}
@@ -11,9 +12,9 @@ use Rattle.kern_model.specs.State.{State}
 use Rattle.kern_model.specs.Step.{step}
 use Rattle.lab_lattice.specs.Label.{Label}
 use Rattle.lab_text.specs.Policy.{PolicyNames}
-use Rattle.script_text.specs.declared.line.Line.{Line}
 use Rattle.lab_engine.specs.declared.ending.Fault.{Fault}
 use Rattle.lab_engine.specs.declared.playing.Played.{Played}
+use Rattle.lab_engine.specs.declared.replying.CallHead.{CallHead}
 use Rattle.lab_engine.specs.declared.reporting.Report.{Report}
 use Rattle.lab_engine.specs.declared.reporting.Report.TheVariants.{All}
 use Rattle.lab_engine.specs.Handling.{Handled, NoLine, NextLine, HandlesAll, HandlesScript, StopsBetween, StopsWithin}
@@ -126,7 +127,7 @@ plays_line (Ok x) count items a b policy writes state report readable none saw =
 plays_line (Err fault) count items a b policy writes state report readable none saw = record { stops = writes; saw = saw }
 
 -- it is ready for another line
-pub ready_again : {T : Type 0} (result : Result T Fault) (count : ℕ) (items : List ScriptItem) (r r' : Report) (s s' : State) (seen seen' stopped stopped' : List (Line × (ℕ × Outcome))) → OnOk result (s' ≡ state_after_run s items)
+pub ready_again : {T : Type 0} (result : Result T Fault) (count : ℕ) (items : List ScriptItem) (r r' : Report) (s s' : State) (seen seen' stopped stopped' : List (Pid × (CallHead × Outcome))) → OnOk result (s' ≡ state_after_run s items)
     → OnOk result (r' ≡ report_after r (run s items)) → SawCalls result (run s items) (calls_seen seen) (calls_seen seen') (calls_seen stopped')
     → (top : Label) → (s.top ≡ top) × CountsAtMost count r × HasSeen count seen stopped → OnOk result ((s'.top ≡ top) × CountsAtMost (count + length items) r' × HasSeen (count + length items) seen' stopped')
 ready_again (Ok x) count items r r' s s' seen seen' stopped stopped' state report saw top ready = (

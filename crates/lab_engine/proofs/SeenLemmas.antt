@@ -2,25 +2,31 @@
 use Rattle.std.proofs.Common.{◌≡◌, ℕ, ◌+◌, List, [], ◌∷◌, ◌++◌, length, refl, sym, ◌∙◌, ap, subst, append_assoc, arith}
 use Rattle.std.proofs.lemmas.List.{append-nil, length-append, map-append}
 use Rattle.std.specs.Prelude.{IsErrAnd, Result, Ok, Err}
+use Rattle.kern_model.specs.declared.numbers.Pid.{Pid}
 use Rattle.kern_model.specs.declared.records.Outcome.{Outcome}
 use Rattle.kern_model.specs.declared.world.ScriptItem.{ScriptItem}
 use Rattle.kern_model.specs.Run.{CallRecord, run, state_after_run}
 use Rattle.kern_model.specs.State.{State}
 use Rattle.kern_model.specs.Step.{step}
-use Rattle.script_text.specs.declared.line.Line.{Line}
 use Rattle.lab_engine.specs.declared.ending.Fault.{Fault}
-use Rattle.lab_engine.specs.Reporter.{SawCalls, SawPart, call_on, calls_seen}
+use Rattle.lab_engine.specs.declared.replying.CallHead.{CallHead}
+use Rattle.lab_engine.specs.declared.replying.ReplyLine.{ReplyLine}
+use Rattle.lab_engine.specs.Report.{call_record}
+use Rattle.lab_engine.specs.Reporter.{SawCalls, SawPart, call_on, calls_seen, head_of, head_seen, who_of}
 
 -- ---- one call
 
-module _ (seen : List (Line × (ℕ × Outcome))) (line : Line) (at : ℕ) (o : Outcome) where
+module _ (r : ReplyLine) (who : Pid) (head : CallHead) (o : Outcome) (who_is : who ≡ who_of r) (head_is : head_seen head ≡ head_of r) (seen seen' : List (Pid × (CallHead × Outcome))) (is : seen' ≡ seen ++ (who, (head, o)) ∷ []) where
   -- a list with one more call
-  pub one_more : (seen' : List (Line × (ℕ × Outcome))) → seen' ≡ seen ++ (line, (at, o)) ∷ [] → calls_seen seen' ≡ calls_seen seen ++ call_on line at o ∷ []
-  one_more seen' is = ap calls_seen is ∙ map-append (λ (c : Line × (ℕ × Outcome)). call_on c.0 c.1.0 c.1.1) seen ((line, (at, o)) ∷ [])
+  pub one_more : calls_seen seen' ≡ calls_seen seen ++ call_on r o ∷ []
+  one_more =
+      ap calls_seen is
+      ∙ map-append (λ (c : Pid × (CallHead × Outcome)). call_record c.0 (head_seen c.1.0) c.1.1) seen ((who, (head, o)) ∷ [])
+      ∙ (λ i. calls_seen seen ++ call_record (who_is i) (head_is i) o ∷ [])
 
   -- the same where no call was there
-  pub only_one : (seen' : List (Line × (ℕ × Outcome))) → seen' ≡ seen ++ (line, (at, o)) ∷ [] → calls_seen seen ≡ [] → calls_seen seen' ≡ call_on line at o ∷ []
-  only_one seen' is none = one_more seen' is ∙ ap (λ (cs : List CallRecord). cs ++ call_on line at o ∷ []) none
+  pub only_one : calls_seen seen ≡ [] → calls_seen seen' ≡ call_on r o ∷ []
+  only_one none = one_more ∙ ap (λ (cs : List CallRecord). cs ++ call_on r o ∷ []) none
 
 -- no call was seen
 pub none_seen : {T : Type 0} (r : Result T Fault) (P : Fault → Type 0) (calls seen stopped : List CallRecord) → stopped ≡ [] → IsErrAnd r P → SawCalls r calls seen seen stopped

@@ -22,7 +22,9 @@ use Rattle.sec_utils.specs.Calls.{IsWhole}
 use Rattle.sec_utils.specs.Items.{head_at}
 use Rattle.lab_engine.specs.declared.ending.Fault.{Fault}
 use Rattle.lab_engine.specs.declared.playing.Played.{Played}
+use Rattle.lab_engine.specs.declared.replying.CallHead.{CallHead}
 use Rattle.lab_engine.specs.declared.replying.ReplyLine.{ReplyLine}
+use Rattle.lab_engine.specs.declared.replying.ReplyLine.TheVariants.{Program, Script}
 use Rattle.lab_engine.specs.declared.reporting.Report.{Report}
 use Rattle.lab_engine.specs.declared.reporting.Report.TheVariants.{All}
 use Rattle.lab_engine.specs.Input.{Judge}
@@ -40,10 +42,10 @@ SameEnds policy policy' out out' trail trail' = (policy' ≡ policy) × (out.gho
 -- ---- the line of a call
 
 -- a line has a call at an index: its only one, or that of a path of its whole utility
-abbrev pub HasCall : Line → ℕ → Type 0
-HasCall line.Blank at = ⊥
-HasCall (line.One who call) at = at ≡ 0
-HasCall (line.Tool util) at = (at < length util.paths) × IsWhole util
+abbrev pub HasCallAt : Line → ℕ → Type 0
+HasCallAt line.Blank at = ⊥
+HasCallAt (line.One who call) at = at ≡ 0
+HasCallAt (line.Tool util) at = (at < length util.paths) × IsWhole util
 
 -- the process whose calls stand on a line; a blank line has the number of no process
 abbrev pub who_on : Line → Pid
@@ -61,26 +63,53 @@ head_on (line.Tool util) at = head_at util at
 abbrev pub item_on : Line → ℕ → Call → ScriptItem
 item_on line at call = record { who = who_on line; head = head_on line at; call = call }
 
--- the call at an index of a line as it was played, by what came of it
-abbrev pub call_on : Line → ℕ → Outcome → CallRecord
-call_on line at outcome = call_record (who_on line) (head_on line at) outcome
+-- ---- a call
+
+-- a call of a script stands on its line
+abbrev pub HasCall : ReplyLine → Type 0
+HasCall (Script line at) = HasCallAt line.now at
+HasCall (Program who call) = Unit {0}
+
+-- the process whose call it is
+abbrev pub who_of : ReplyLine → Pid
+who_of (Script line at) = who_on line.now
+who_of (Program who call) = who.now
+
+-- what a reply shows of it: of a call of a program its word
+abbrev pub head_of : ReplyLine → List ℕ
+head_of (Script line at) = head_on line.now at
+head_of (Program who call) = word_of (name_of call.now)
+
+-- a call as it was played, by what came of it
+abbrev pub call_on : ReplyLine → Outcome → CallRecord
+call_on r outcome = call_record (who_of r) (head_of r) outcome
 
 -- the same call as it is played from a state on
 abbrev pub played_at : State → ReplyLine → Call → CallRecord
-played_at s r call = item_record s (item_on r.line.now r.at call)
+played_at s r call = item_record s (record { who = who_of r; head = head_of r; call = call })
 
 -- the line of the output with a reply to the call
 abbrev pub reply_at : PolicyNames → ReplyLine → Reply → List ℕ
-reply_at policy r reply = reply_line policy (who_on r.line.now) (head_on r.line.now r.at) reply
+reply_at policy r reply = reply_line policy (who_of r) (head_of r) reply
 
 -- ---- the calls that were seen
 
--- the calls of a list of lines, each with the index of the call on its line and with what came of it
-abbrev pub calls_seen : List (Line × (ℕ × Outcome)) → List CallRecord
-calls_seen seen = map (λ (c : Line × (ℕ × Outcome)). call_on c.0 c.1.0 c.1.1) seen
+-- what a reply shows, by a list with a line of a script, or else by one with a call of a program
+abbrev pub head_in : List (Line × (ℕ × Unit {0})) → List (Call × (Unit {0} × Unit {0})) → List ℕ
+head_in (l ∷ _) calls = head_on l.0 l.1.0
+head_in [] (c ∷ _) = word_of (name_of c.0)
+head_in [] [] = []
+
+-- what is kept of it
+abbrev pub head_seen : CallHead → List ℕ
+head_seen h = head_in h.line.items h.call.items
+
+-- the calls of a list, each by its process, by what its reply shows and by what came of it
+abbrev pub calls_seen : List (Pid × (CallHead × Outcome)) → List CallRecord
+calls_seen seen = map (λ (c : Pid × (CallHead × Outcome)). call_record c.0 (head_seen c.1.0) c.1.1) seen
 
 -- so many calls were seen, and none was stopped
-abbrev pub HasSeen : ℕ → (seen stopped : List (Line × (ℕ × Outcome))) → Type 0
+abbrev pub HasSeen : ℕ → (seen stopped : List (Pid × (CallHead × Outcome))) → Type 0
 HasSeen n seen stopped = (length (calls_seen seen) ≡ n) × (calls_seen stopped ≡ [])
 
 -- the first of these calls were seen besides, and a call that was stopped is the next one
@@ -113,6 +142,6 @@ pub record HoldReports (policy : PolicyNames) (first now : Report) (seen stopped
   pub one : length stopped ≤ 1
 
 -- the same from a list that has the output, the trail and the report as they were at the start
-abbrev pub HoldReportsSince : {K T : Type 0} → (K → SinkView) → (T → SinkView) → List (K × (T × Report)) → PolicyNames → Report → (seen stopped : List (Line × (ℕ × Outcome))) → (out trail : SinkView) → Type 0
+abbrev pub HoldReportsSince : {K T : Type 0} → (K → SinkView) → (T → SinkView) → List (K × (T × Report)) → PolicyNames → Report → (seen stopped : List CallRecord) → (out trail : SinkView) → Type 0
 HoldReportsSince f g [] policy now seen stopped out trail = ⊥
-HoldReportsSince f g (start ∷ _) policy now seen stopped out trail = HoldReports policy start.1.1 now (calls_seen seen) (calls_seen stopped) (ends 0 (f start.0) (g start.1.0)) (ends 0 out trail)
+HoldReportsSince f g (start ∷ _) policy now seen stopped out trail = HoldReports policy start.1.1 now seen stopped (ends 0 (f start.0) (g start.1.0)) (ends 0 out trail)

@@ -25,6 +25,7 @@ pub use keeping::{Kept, keep_script};
 pub use opening::{Opened, OpenedWorld, open_input};
 pub use playing::{Played, play_script};
 pub use reading::{LineRules, NextLine, read_next};
+pub use replying::ReplyLine;
 pub use reporter::{Reporter, answer, note_all, report_last, write_head};
 pub use reporting::{Report, Tally};
 pub use texts::{Texts, end_line};

@@ -10,7 +10,7 @@ ghost use Rattle.script_text.specs.declared.line.Line.TheVariants as a_line;
 ghost use Rattle.lab_engine.specs.Input.{items_in};
 ghost use Rattle.lab_engine.specs.Judging.{judge_of};
 ghost use Rattle.lab_engine.specs.Report.{CountsAtMost, report_after, report_after_call};
-ghost use Rattle.lab_engine.specs.Reporter.{HasCall, HasSeen, calls_seen, played_at, who_on};
+ghost use Rattle.lab_engine.specs.Reporter.{HasCall, HasSeen, calls_seen, played_at, who_of};
 ghost use Rattle.lab_engine.specs.Player.{ItemsReadableIfAll, PlaysTo, ReadableIfAll, SameBorrows, ShowsCalls, ShowsScript, WritesCall, WritesItems};
 
 use crate::handling::{LineHandler, handle_script};
@@ -34,12 +34,12 @@ fn play_call<C: Calls, K: Sink, T: Sink>(
     reporter: &mut Reporter<'_, K, T>,
 ) -> Result<(), Fault>
     requires arguments { is_call (C.state kernel.old).top call.now ≡ true }
-    requires line { HasCall line.line.now line.at }
+    requires line { HasCall line }
     requires small { CountsAtMost (2 ^ 60) reporter.old.report }
     requires number { number ≡ length (calls_seen reporter.old.seen.items) + 1 }
     requires going { calls_seen reporter.old.stopped.items ≡ [] }
     ensures writes { WritesCall result number (played_at (C.state kernel.old) line.entry call.now) reporter.old reporter.new }
-    ensures state { OnOk result (C.state kernel.new ≡ (step (C.state kernel.old) (who_on line.entry.line.now) call.now).state) }
+    ensures state { OnOk result (C.state kernel.new ≡ (step (C.state kernel.old) (who_of line.entry) call.now).state) }
     ensures report { OnOk result (reporter.new.report ≡ report_after_call reporter.old.report (played_at (C.state kernel.old) line.entry call.now)) }
     ensures readable { OnOk result (ReadableIfAll reporter.old number (played_at (C.state kernel.old) line.entry call.now).recs) }
     ensures saw { ShowsCalls result (played_at (C.state kernel.old) line.entry call.now ∷ []) reporter.old reporter.new }
@@ -77,7 +77,7 @@ fn play_tool<C: Calls, K: Sink, T: Sink>(
     let mut number = count;
     for (at, call) in calls.items().iter().enumerate() {
         number += 1;
-        play_call(kernel, number, ReplyLine { line, at }, call, reporter)?;
+        play_call(kernel, number, ReplyLine::Script(line, at), call, reporter)?;
     }
     Ok(number)
 }
@@ -105,7 +105,13 @@ fn play_line<C: Calls, K: Sink, T: Sink>(
     match line {
         Line::Blank => Ok(count),
         Line::One { call, .. } => {
-            play_call(kernel, count + 1, ReplyLine { line, at: 0 }, call, reporter)?;
+            play_call(
+                kernel,
+                count + 1,
+                ReplyLine::Script(line, 0),
+                call,
+                reporter,
+            )?;
             Ok(count + 1)
         }
         Line::Tool(util) => play_tool(kernel, count, line, util, reporter),

@@ -12,7 +12,7 @@ ghost use Rattle.lab_engine.specs.Reporter.{HasCall, HasSeen, HoldReportsSince, 
 ghost use Rattle.lab_engine.specs.Readable.{AreReadable};
 ghost use Rattle.lab_engine.specs.Playing.{WritesBoth, WritesOut, WritesTrail};
 
-use crate::replying::ReplyLine;
+use crate::replying::{CallHead, ReplyLine};
 use crate::reporting::{Report, Shown};
 use crate::texts::{Texts, last_line};
 use crate::{Fault, InputEnd};
@@ -20,8 +20,7 @@ use aud_record::{header_text, rec_text};
 use cap_bits::CapSet;
 use ghost_list::GhostList;
 use io_ends::{Sink, write_whole};
-use kern_model::{Outcome, Rec, Reply};
-use script_text::Line;
+use kern_model::{Outcome, Pid, Rec, Reply};
 use std::alloc::Global;
 use std::mem::replace;
 
@@ -151,10 +150,10 @@ impl<'t, 'a, K: Sink, T: Sink> CallWriter<'t, 'a, K, T> {
         }
     }
 
-    // Writes the reply to a call on its line.
+    // Writes the reply to a call.
     #[inline(always)]
     fn reply(&mut self, line: ReplyLine<'_>, reply: &Reply) -> Result<(), Fault>
-        requires { HasCall line.line.now line.at }
+        requires { HasCall line }
         ensures writes { WritesBoth result (to_out (reply_at self.old.texts.policy.now line.entry reply.now))
             (K.view self.old.out.now) (K.view self.new.out.now) (T.view self.old.trail.now) (T.view self.new.trail.now) }
         ensures same { SameEnds self.old.texts.policy.now self.new.texts.policy.now self.old.out self.new.out self.old.trail self.new.trail }
@@ -177,11 +176,11 @@ impl<'t, 'a, K: Sink, T: Sink> CallWriter<'t, 'a, K, T> {
         line: ReplyLine<'_>,
         outcome: &Outcome,
     ) -> Result<(), Fault>
-        requires line { HasCall line.line.now line.at }
+        requires line { HasCall line }
         requires small { CountsAtMost (2 ^ 60) report.old }
-        ensures writes { WritesBoth result (call_sends report.old self.old.texts.policy.now number (call_on line.entry.line.now line.entry.at outcome.now))
+        ensures writes { WritesBoth result (call_sends report.old self.old.texts.policy.now number (call_on line.entry outcome.now))
             (K.view self.old.out.now) (K.view self.new.out.now) (T.view self.old.trail.now) (T.view self.new.trail.now) }
-        ensures report { OnOk result (report.new ≡ report_after_call report.old (call_on line.entry.line.now line.entry.at outcome.now)) }
+        ensures report { OnOk result (report.new ≡ report_after_call report.old (call_on line.entry outcome.now)) }
         ensures readable { OnOk result (report.old ≡ a_report.All → AreReadable self.old.texts.policy.now number outcome.now.recs) }
         ensures same { SameEnds self.old.texts.policy.now self.new.texts.policy.now self.old.out self.new.out self.old.trail self.new.trail }
         ensures same_buffer { self.old.buffer.ghost_name ≡ self.new.buffer.ghost_name }
@@ -212,10 +211,10 @@ pub struct Reporter<'a, K: Sink, T: Sink> {
     // The output, the trail and the report as they were at the start.
     start: GhostList<K, T, Report>,
     // The calls that were seen.
-    seen: GhostList<Line, usize, Outcome>,
+    seen: GhostList<Pid, CallHead, Outcome>,
     // The call that a fault stopped, or none.
-    stopped: GhostList<Line, usize, Outcome>,
-    ghost kept: { ∥ HoldReportsSince K.view T.view start.items texts.policy.now report seen.items stopped.items (K.view out.now) (T.view trail.now) ∥₁ },
+    stopped: GhostList<Pid, CallHead, Outcome>,
+    ghost kept: { ∥ HoldReportsSince K.view T.view start.items texts.policy.now report (calls_seen seen.items) (calls_seen stopped.items) (K.view out.now) (T.view trail.now) ∥₁ },
 }
 
 impl<'a, K: Sink, T: Sink> Reporter<'a, K, T> {
@@ -254,31 +253,31 @@ impl<'a, K: Sink, T: Sink> Reporter<'a, K, T> {
 
     /// Writes what is reported of a call. The call is seen then, or is the one at which a fault stopped.
     #[inline(always)]
-    pub(crate) fn report_call(
+    pub fn report_call(
         &mut self,
         number: u64,
         line: ReplyLine<'_>,
         outcome: &Outcome,
     ) -> Result<(), Fault>
-        requires line { HasCall line.line.now line.at }
+        requires line { HasCall line }
         requires small { CountsAtMost (2 ^ 60) self.old.report }
         requires number { number ≡ length (calls_seen self.old.seen.items) + 1 }
         requires going { calls_seen self.old.stopped.items ≡ [] }
-        ensures writes { WritesCall result number (call_on line.entry.line.now line.entry.at outcome.now) self.old self.new }
-        ensures report { OnOk result (self.new.report ≡ report_after_call self.old.report (call_on line.entry.line.now line.entry.at outcome.now)) }
+        ensures writes { WritesCall result number (call_on line.entry outcome.now) self.old self.new }
+        ensures report { OnOk result (self.new.report ≡ report_after_call self.old.report (call_on line.entry outcome.now)) }
         ensures readable { OnOk result (ReadableIfAll self.old number outcome.now.recs) }
-        ensures saw { ShowsCalls result (call_on line.entry.line.now line.entry.at outcome.now ∷ []) self.old self.new }
+        ensures saw { ShowsCalls result (call_on line.entry outcome.now ∷ []) self.old self.new }
         ensures start { self.new.start.items ≡ self.old.start.items }
         ensures same { SameBorrows self.old self.new }
     {
         let mut writer = CallWriter::new(self.texts, self.buffer, self.out, self.trail);
         match writer.write_call(&mut self.report, number, line, outcome) {
             Ok(()) => {
-                self.seen = self.seen.with(line.line, &line.at, outcome);
+                self.seen = self.seen.with(line.who(), &line.head(), outcome);
                 Ok(())
             }
             Err(fault) => {
-                self.stopped = self.stopped.with(line.line, &line.at, outcome);
+                self.stopped = self.stopped.with(line.who(), &line.head(), outcome);
                 Err(fault)
             }
         }

@@ -54,7 +54,7 @@ pub struct CommandHelp {
     details: &'static [&'static str],
 }
 
-static COMMANDS: [CommandHelp; 10] = [
+static COMMANDS: [CommandHelp; 11] = [
     CommandHelp {
         word: "play",
         argument: Some(FILE),
@@ -133,6 +133,16 @@ static COMMANDS: [CommandHelp; 10] = [
             "plays the world and the script of standard input, and writes to standard output the",
             "world without the capabilities that the script never needed, after a line that names",
             "them",
+        ],
+    },
+    CommandHelp {
+        word: "never",
+        argument: None,
+        input: Some("WORLD"),
+        about: "says what no script can do in WORLD",
+        details: &[
+            "reads them, plays nothing, and writes to standard output what no script can do in that",
+            "world: which capabilities none exercises, and which labels nothing ever crosses",
         ],
     },
     CommandHelp {

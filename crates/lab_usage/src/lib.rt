@@ -91,7 +91,7 @@ fn command_line<'a>(alloc: Global, details: &'a str) -> Result<Command<'a>, Allo
     let argument = Arg::new(alloc, "ARGUMENT").help("FILE, LABEL, N or SPEC");
     Ok(
         Command::new(alloc, "labsys")
-            .version("1.0.0")
+            .version("2.0.0 (world 2, trail 1)")
             .about(ABOUT)
             .disable_help_flag(true)
             .disable_version_flag(true)

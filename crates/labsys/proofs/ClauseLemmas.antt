@@ -11,7 +11,7 @@ use Rattle.kern_model.specs.Prefixes.{IsPrefix}
 use Rattle.kern_model.specs.Lineage.{OnlyDrops, GrowsByExec}
 use Rattle.iso_laws.proofs.Laws.{drops_by_records, growth_by_records}
 use Rattle.labsys.specs.declared.command.Command.{Command}
-use Rattle.labsys.specs.declared.command.Command.TheVariants.{Play, Sched, Check, Gen, Drill, View, Upgrade, Least, Select, Lineage}
+use Rattle.labsys.specs.declared.command.Command.TheVariants.{Play, Sched, Check, Gen, Drill, View, Upgrade, Least, Never, Select, Lineage}
 use Rattle.lab_engine.specs.declared.ending.InputEnd.{InputEnd}
 use Rattle.lab_engine.specs.declared.ending.InputEnd.TheVariants.{Whole, Refused as IsRefused, RefusedWord, TooMuch}
 use Rattle.lab_engine.specs.declared.ending.Fault.{Fault}
@@ -324,6 +324,7 @@ did_used Check r l l' e e' x = did_beside Check _ (λ text. refl) (λ play. absu
 did_used (View word) r l l' e e' x = did_beside (View word) _ (λ text. refl) (λ play. absurd (cc)) (λ text q a b c d same. same) r l l' e e' x
 did_used Upgrade r l l' e e' x = did_beside Upgrade _ (λ text. refl) (λ play. absurd (cc)) (λ text q a b c d same. same) r l l' e e' x
 did_used Least r l l' e e' x = did_beside Least _ (λ text. refl) (λ play. absurd (cc)) (λ text q a b c d same. same) r l l' e e' x
+did_used Never r l l' e e' x = did_beside Never _ (λ text. refl) (λ play. absurd (cc)) (λ text q a b c d same. same) r l l' e e' x
 did_used (Select word) r l l' e e' x = did_beside (Select word) _ (λ text. refl) (λ play. absurd (cc)) (λ text q a b c d same. same) r l l' e e' x
 did_used Lineage r l l' e e' x = did_beside Lineage _ (λ text. refl) (λ play. absurd (cc)) (λ text q a b c d same. same) r l l' e e' x
 did_used (Gen n) r l l' e e' x = record { taken = []; took = Consumes-nil (Some []); few = omega arith; writes = writes_out r _ e e' x.writes; status = x.status; to_the_end = λ reads. absurd (cc); by_line = λ play. absurd (cc); besides = tt }
@@ -467,7 +468,7 @@ module _ (r : Result InputEnd Fault) (l l' : Option (List ℕ)) (entry exit : En
 -- ---- what `view` did
 
 -- what a view wrote of an accepted world
-viewed : (word text : List ℕ) (k : Label) (a : Accepted) → (input_of text).accepted ≡ Some a → parse_label a.policy word ≡ Some k → out_of (due (View word) text).order ≡ view_text k (session_of a (input_of text).script)
+pub viewed : (word text : List ℕ) (k : Label) (a : Accepted) → (input_of text).accepted ≡ Some a → parse_label a.policy word ≡ Some k → out_of (due (View word) text).order ≡ view_text k (session_of a (input_of text).script)
 viewed word text k a is named =
     let m : Script = (input_of text).script in
     ap (λ (w : Option Accepted). out_of (to_out (text_of_view word w m))) is

@@ -11,9 +11,9 @@ use Rattle.lab_engine.specs.Order.{Sent, calls_by, order_by, order_of, order_of_
 use Rattle.lab_engine.specs.Reading.{Takes, left_of}
 use Rattle.lab_engine.specs.Texts.{last_text}
 use Rattle.labsys.specs.declared.command.Command.{Command}
-use Rattle.labsys.specs.declared.command.Command.TheVariants.{Play, Sched, Check, Gen, Drill, View, Upgrade, Least, Select, Lineage}
+use Rattle.labsys.specs.declared.command.Command.TheVariants.{Play, Sched, Check, Gen, Drill, View, Upgrade, Least, Never, Select, Lineage}
 use Rattle.labsys.specs.Clauses.{TakesAtMost}
-use Rattle.labsys.specs.Commands.{due, due_of_check, due_of_least, due_of_play, due_of_sched, due_of_upgrade, due_of_view, ends_with}
+use Rattle.labsys.specs.Commands.{due, due_of_check, due_of_least, due_of_never, due_of_play, due_of_sched, due_of_upgrade, due_of_view, ends_with}
 use Rattle.labsys.specs.Playing.{format_of, reads_input}
 use Rattle.labsys.proofs.ProgramInputs.{no_programs}
 
@@ -57,6 +57,7 @@ due_without_world (Drill n) reads left taken e ended = absurd (cc)
 due_without_world (View word) reads left taken e ended = ap (due_of_view word) ended.says
 due_without_world Upgrade reads left taken e ended = ap due_of_upgrade ended.keeps
 due_without_world Least reads left taken e ended = ap due_of_least ended.least
+due_without_world Never reads left taken e ended = ap due_of_never ended.says
 due_without_world (Select word) reads left taken e ended = absurd (cc)
 due_without_world Lineage reads left taken e ended = absurd (cc)
 

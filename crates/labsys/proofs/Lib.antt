@@ -25,5 +25,6 @@ pub mod LoopIsolating
 pub mod ScheduleAnswers
 pub mod LineageAnswers
 pub mod NarrowedLemmas
+pub mod NeverLemmas
 pub mod UntouchedLemmas
 pub mod RunLemmas

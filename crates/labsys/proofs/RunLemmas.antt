@@ -9,7 +9,7 @@ use Rattle.lab_engine.specs.declared.ending.InputEnd.{InputEnd}
 use Rattle.lab_engine.specs.declared.ending.InputEnd.TheVariants.{Whole, Refused as IsRefused, RefusedWord, TooMuch}
 use Rattle.lab_engine.specs.Playing.{ends}
 use Rattle.labsys.specs.declared.command.Command.{Command}
-use Rattle.labsys.specs.declared.command.Command.TheVariants.{Play, Sched, View, Upgrade, Least, Lineage}
+use Rattle.labsys.specs.declared.command.Command.TheVariants.{Play, Sched, View, Upgrade, Least, Never, Lineage}
 use Rattle.labsys.specs.declared.status.Status.{Status}
 use Rattle.labsys.specs.declared.status.Status.TheVariants.{Usage, NoMemory}
 use Rattle.labsys.specs.Clauses.{status_of}
@@ -20,6 +20,7 @@ use Rattle.labsys.proofs.ClauseLemmas.{as_named, run_counts, run_ending, run_few
 use Rattle.labsys.proofs.InputLemmas.{reads_nothing}
 use Rattle.labsys.proofs.LineageAnswers.{run_lineage}
 use Rattle.labsys.proofs.NarrowedLemmas.{run_least}
+use Rattle.labsys.proofs.NeverLemmas.{run_never}
 use Rattle.labsys.proofs.ScheduleAnswers.{run_schedules}
 use Rattle.labsys.proofs.UntouchedLemmas.{untouched_order, untouched_play, untouched_read_fault, untouched_schedule, untouched_to_the_end, untouched_trail_fault, where_named}
 
@@ -57,6 +58,7 @@ module _ (words : List (String Global)) where
         view = λ word same. run_view word r _ _ _ _ (did_of (View word) same) s is;
         upgrade = λ same. run_upgrade r _ _ _ _ (did_of Upgrade same) s is;
         least = λ same. run_least r _ _ _ _ (did_of Least same) s is;
+        never = λ same. run_never r _ _ _ _ (did_of Never same) s is;
         lineage = λ same. run_lineage r _ _ _ _ (did_of Lineage same) s is;
         to_the_end = run_to_the_end c r _ _ _ _ did s is o named;
         few = run_few c r _ _ _ _ did;
@@ -84,6 +86,7 @@ module _ (words : List (String Global)) where
       view = λ word same. absurd (not_named (View word) same);
       upgrade = λ same. absurd (not_named Upgrade same);
       least = λ same. absurd (not_named Least same);
+      never = λ same. absurd (not_named Never same);
       lineage = λ same. absurd (not_named Lineage same);
       to_the_end = unnamed _;
       few = reads_nothing _ _;
@@ -104,6 +107,7 @@ module _ (words : List (String Global)) where
     view = λ word same. record { view_alone = λ l done. cc };
     upgrade = λ same. record { upgraded = λ done. cc };
     least = λ same. record { narrowed = λ done. cc };
+    never = λ same. record { for_all = λ done. cc };
     lineage = λ same. record { answers = λ done. cc };
     to_the_end = untouched_to_the_end o _;
     few = reads_nothing _ _;

@@ -26,9 +26,9 @@ use Rattle.lab_engine.specs.Upgrading.{ReadsBack}
 use Rattle.lab_engine.proofs.Sending.{in_order, not_a_read, passes_on, prefix_nothing}
 use Rattle.world_text.specs.declared.format.Format.{Format}
 use Rattle.labsys.specs.declared.command.Command.{Command}
-use Rattle.labsys.specs.declared.command.Command.TheVariants.{Play, Sched, Check, Gen, Drill, View, Upgrade, Least, Select, Lineage}
+use Rattle.labsys.specs.declared.command.Command.TheVariants.{Play, Sched, Check, Gen, Drill, View, Upgrade, Least, Never, Select, Lineage}
 use Rattle.labsys.specs.Clauses.{TakesAtMost}
-use Rattle.labsys.specs.Commands.{Due, due, due_of_check, due_of_least, due_of_play, due_of_sched, due_of_upgrade, due_of_view, ends_with}
+use Rattle.labsys.specs.Commands.{Due, due, due_of_check, due_of_least, due_of_never, due_of_play, due_of_sched, due_of_upgrade, due_of_view, ends_with}
 use Rattle.labsys.specs.Least.{NarrowedReadsBack, least_world, needed_by}
 use Rattle.labsys.specs.Playing.{Besides, BesidesLeft, CommandDid, DoesWorld, IsOpened, WritesLeft, due_left, format_of, input_left, reads_input}
 use Rattle.labsys.specs.Readable.{ProgramsReadable}
@@ -123,6 +123,7 @@ due_opened (Drill n) reads taken w opens more = absurd (cc)
 due_opened (View word) reads taken w opens more = ap (due_of_view word) (opens.says more)
 due_opened Upgrade reads taken w opens more = ap due_of_upgrade (opens.keeps more)
 due_opened Least reads taken w opens more = ap due_of_least (opens.least more)
+due_opened Never reads taken w opens more = ap due_of_never (opens.says more)
 due_opened (Select word) reads taken w opens more = absurd (cc)
 due_opened Lineage reads taken w opens more = absurd (cc)
 
@@ -144,6 +145,7 @@ besides_opened Upgrade reads taken w opens more r before after did =
 besides_opened Least reads taken w opens more r before after did =
     IfOk-weaker r _ _ (λ e back. subst (λ (i : Input). NarrowedReadsBack i e) (sym (opens.least more))
     (λ whole a accepted. subst (λ (b : Accepted). ReadsBack (least_world b (needed_by b (least_at w.read.policy w.lines more)))) (some_same w.read a accepted) (back whole))) did
+besides_opened Never reads taken w opens more r before after did = tt
 besides_opened (Select word) reads taken w opens more r before after did = absurd (cc)
 besides_opened Lineage reads taken w opens more r before after did = absurd (cc)
 
@@ -161,6 +163,7 @@ besides_ended Upgrade reads left taken ending ended r before after same =
     IfOk-weaker r _ _ (λ e is a accepted. let no : None ≡ Some a = sym (ap (λ (i : UpgradeInput). i.accepted) ended.keeps) ∙ accepted in absurd (cc)) same
 besides_ended Least reads left taken ending ended r before after same =
     IfOk-weaker r _ _ (λ e is whole a accepted. let no : None ≡ Some a = sym (ap (λ (i : Input). i.accepted) ended.least) ∙ accepted in absurd (cc)) same
+besides_ended Never reads left taken ending ended r before after same = tt
 besides_ended (Select word) reads left taken ending ended r before after same = absurd (cc)
 besides_ended Lineage reads left taken ending ended r before after same = absurd (cc)
 
@@ -174,6 +177,7 @@ besides_failed (Drill k) text r fault is n n' o t = tt
 besides_failed (View word) text r fault is n n' o t = tt
 besides_failed Upgrade text r fault is n n' o t = failed_ending r fault is _
 besides_failed Least text r fault is n n' o t = failed_ending r fault is _
+besides_failed Never text r fault is n n' o t = tt
 besides_failed (Select word) text r fault is n n' o t = tt
 besides_failed Lineage text r fault is n n' o t = tt
 
@@ -274,10 +278,11 @@ module _ (c : Command) (reads : reads_input c ≡ true) (format : Format) (same 
 
 -- ---- which commands read an input
 
-pub reads_one : (c : Command) (word : List ℕ) → (c ≡ Play) ⊎ ((c ≡ Sched) ⊎ ((c ≡ Check) ⊎ (((w : List ℕ) × (c ≡ View w)) ⊎ ((c ≡ Upgrade) ⊎ (c ≡ Least))))) → reads_input c ≡ true
+pub reads_one : (c : Command) (word : List ℕ) → (c ≡ Play) ⊎ ((c ≡ Sched) ⊎ ((c ≡ Check) ⊎ (((w : List ℕ) × (c ≡ View w)) ⊎ ((c ≡ Upgrade) ⊎ ((c ≡ Least) ⊎ (c ≡ Never)))))) → reads_input c ≡ true
 reads_one c word (inl is) = ap reads_input is
 reads_one c word (inr (inl is)) = ap reads_input is
 reads_one c word (inr (inr (inl is))) = ap reads_input is
 reads_one c word (inr (inr (inr (inl (w, is))))) = ap reads_input is
 reads_one c word (inr (inr (inr (inr (inl is))))) = ap reads_input is
-reads_one c word (inr (inr (inr (inr (inr is))))) = ap reads_input is
+reads_one c word (inr (inr (inr (inr (inr (inl is)))))) = ap reads_input is
+reads_one c word (inr (inr (inr (inr (inr (inr is)))))) = ap reads_input is

@@ -10,12 +10,13 @@ use Rattle.gen_world.specs.Text.{gen_text}
 use Rattle.lab_text.specs.Names.{same_bytes}
 use Rattle.lab_usage.specs.Words.{Given, given_words}
 use Rattle.labsys.specs.declared.command.Command.{Command}
-use Rattle.labsys.specs.declared.command.Command.TheVariants.{Play, Sched, Check, Gen, Drill, View, Upgrade, Least, Select, Lineage}
+use Rattle.labsys.specs.declared.command.Command.TheVariants.{Play, Sched, Check, Gen, Drill, View, Upgrade, Least, Never, Select, Lineage}
 use Rattle.lab_engine.specs.declared.ending.InputEnd.{InputEnd}
 use Rattle.lab_engine.specs.declared.ending.InputEnd.TheVariants.{Whole, Refused as IsRefused, RefusedWord, TooMuch}
 use Rattle.labsys.specs.Checking.{order_of_check}
 use Rattle.labsys.specs.Drilling.{drilled_text}
 use Rattle.labsys.specs.Least.{order_of_least}
+use Rattle.labsys.specs.Never.{order_of_never}
 use Rattle.labsys.specs.LineageText.{ending_of_lineage, text_of_lineage}
 use Rattle.labsys.specs.Scheduling.{ProgramInput, ending_of_programs, order_of_programs, programs_of}
 use Rattle.labsys.specs.Selecting.{ending_by_word, text_of_select}
@@ -70,6 +71,7 @@ commands =
     ∷ (codes "drill", a_number Drill)
     ∷ (codes "upgrade", nothing Upgrade)
     ∷ (codes "least", nothing Least)
+    ∷ (codes "never", nothing Never)
     ∷ (codes "select", a_word Select)
     ∷ (codes "lineage", nothing Lineage)
     ∷ []
@@ -130,6 +132,10 @@ due_of_upgrade i = record { order = order_of_upgrade i; status = ends_with i.scr
 abbrev pub due_of_least : Input → Due
 due_of_least i = record { order = order_of_least i; status = ends_with i.script.ending }
 
+-- what is due of an input of which it is written what no script can do
+abbrev pub due_of_never : Input → Due
+due_of_never i = record { order = order_of_never i; status = ends_with i.script.ending }
+
 -- what is due of a trail of which a word picks records
 abbrev pub due_of_select : List ℕ → ReadTrail → Due
 due_of_select word t = record { order = to_out (text_of_select word t); status = ends_with (ending_by_word word t) }
@@ -148,6 +154,7 @@ due (Drill n) text = record { order = to_out (drilled_text n); status = Done }
 due (View word) text = due_of_view word (input_of text)
 due Upgrade text = due_of_upgrade (upgrade_of text)
 due Least text = due_of_least (least_of text)
+due Never text = due_of_never (input_of text)
 due (Select word) text = due_of_select word (trail_in text)
 due Lineage text = due_of_lineage (trail_in text)
 

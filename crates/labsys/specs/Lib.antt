@@ -2,6 +2,7 @@ pub mod Checking
 pub mod Viewing
 pub mod Upgrading
 pub mod Least
+pub mod Never
 pub mod Drilling
 pub mod Trails
 pub mod Selecting

@@ -25,9 +25,9 @@ use Rattle.lab_engine.specs.UpgradeInput.{UpgradeInput, upgrade_of}
 use Rattle.lab_engine.specs.Upgrading.{ReadsBack}
 use Rattle.sched_engine.specs.Reading.{schedule_at}
 use Rattle.labsys.specs.declared.command.Command.{Command}
-use Rattle.labsys.specs.declared.command.Command.TheVariants.{Play, Sched, Check, View, Upgrade, Least}
+use Rattle.labsys.specs.declared.command.Command.TheVariants.{Play, Sched, Check, View, Upgrade, Least, Never}
 use Rattle.labsys.specs.Clauses.{TakesAtMost}
-use Rattle.labsys.specs.Commands.{Due, due, due_of_check, due_of_least, due_of_play, due_of_sched, due_of_upgrade, due_of_view, ends_with, reads_source}
+use Rattle.labsys.specs.Commands.{Due, due, due_of_check, due_of_least, due_of_never, due_of_play, due_of_sched, due_of_upgrade, due_of_view, ends_with, reads_source}
 use Rattle.labsys.specs.Drilling.{drill_text}
 use Rattle.labsys.specs.Least.{NarrowedReadsBack, least_world, needed_by}
 use Rattle.labsys.specs.Readable.{InputReadable, ProgramsReadable, SessionReadable}
@@ -70,6 +70,7 @@ reads_input Check = true
 reads_input (View word) = true
 reads_input Upgrade = true
 reads_input Least = true
+reads_input Never = true
 reads_input _ = false
 
 -- the format of the input
@@ -102,6 +103,7 @@ due_left Check a lines more = due_of_check (input_left a lines more)
 due_left (View word) a lines more = due_of_view word (input_left a lines more)
 due_left Upgrade a lines more = due_of_upgrade (upgrade_left a lines more)
 due_left Least a lines more = due_of_least (least_left a lines more)
+due_left Never a lines more = due_of_never (input_left a lines more)
 due_left c a lines more = due c more
 
 -- what holds besides, by the same

@@ -1,17 +1,24 @@
--- What `play`, `view`, `upgrade`, `least` and `lineage` promise, where the ends that they use report their bytes.
-use Rattle.std.specs.Prelude.{◌≡◌, ℕ, ◌≤◌, List, Some, length}
+-- What `play`, `view`, `upgrade`, `least`, `never` and `lineage` promise, where the ends that they use report their bytes.
+use Rattle.std.specs.Prelude.{◌≡◌, ℕ, ◌≤◌, true, List, Some, length}
+use Rattle.cap_bits.specs.declared.cap.Cap.{Cap}
+use Rattle.cap_bits.specs.CapSet.{has}
 use Rattle.lab_lattice.specs.Label.{Label}
 use Rattle.lab_text.specs.Text.{parse_label}
 use Rattle.kern_model.specs.declared.limits.TheConstants.{MAX_INPUT}
 use Rattle.kern_model.specs.Isolation.{up_to}
-use Rattle.lab_engine.specs.Input.{Accepted, Script}
-use Rattle.lab_engine.specs.Session.{session_of}
+use Rattle.iso_laws.specs.Unnamed.{IsUnnamed}
+use Rattle.ever_caps.specs.Uncrossed.{is_uncrossed}
+use Rattle.lab_engine.specs.Input.{Accepted, Script, input_of}
+use Rattle.lab_engine.specs.Order.{out_of, trail_of}
+use Rattle.lab_engine.specs.Session.{numbered_recs, session_of}
 use Rattle.lab_engine.specs.Viewing.{session_alone, view_text}
 use Rattle.lab_engine.specs.Upgrading.{UpgradedTo}
-use Rattle.labsys.specs.declared.command.Command.TheVariants.{Least, Lineage, Upgrade, View}
+use Rattle.labsys.specs.declared.command.Command.TheVariants.{Least, Lineage, Never, Play, Upgrade, View}
 use Rattle.labsys.specs.declared.status.Status.{Status}
 use Rattle.labsys.specs.declared.status.Status.TheVariants.{Done, ReadFault}
-use Rattle.labsys.specs.Clauses.{Reports, reports_used, run_of, OnWhole, WhereReported, WhereAccepted, PlayedTaken, Covered, RepliesFirst, Printed, Dropped, Isolated, IsolatedWhole, SameBelow, TwoInputs, TwoWhole}
+use Rattle.labsys.specs.Commands.{due}
+use Rattle.labsys.specs.Never.{never_text, unexercised}
+use Rattle.labsys.specs.Clauses.{Reports, reports_used, run_of, OnWhole, WhereReported, WhereAccepted, PlayedTaken, Covered, RepliesFirst, Printed, Dropped, Isolated, IsolatedWhole, SameBelow, TwoInputs, TwoWhole, recs_in, trail_with}
 use Rattle.labsys.specs.Least.{NarrowedTo}
 use Rattle.labsys.specs.Lineage.{AnsweredYes, PrintedByAny}
 use Rattle.labsys.specs.LineageText.{SaysLineage}
@@ -79,6 +86,26 @@ pub record Narrows (status : Status) (old now : Reports) : Type 0 where
   -- are an input with that world and the same calls, and each call gets the same reply.
   pub narrowed : status ≡ Done
       → WhereReported (reports_used Least old) (reports_used Least now) (λ text out trail. NarrowedTo text out)
+
+-- what `never` says of an accepted world holds of an input with this world, whatever script follows it
+pub record HoldsOf (a : Accepted) (other : List ℕ) (script : Script) : Type 0 where
+  -- The trail that is due of `play` is the one with the records of the run.
+  pub trail : trail_of (due Play other).order ≡ trail_with (session_of a script) (numbered_recs (session_of a script))
+  -- No record of them is an exercise of a capability of the first line.
+  pub unexercised : (c : Cap) → has (unexercised a.world) c ≡ true
+      → IsUnnamed c (recs_in (numbered_recs (session_of a script)))
+  -- No call has a record that crosses a label which has a line `uncrossed`.
+  pub uncrossed : (l : Label) → is_uncrossed l a.world ≡ true → up_to l (run_of a script) ≡ run_of a script
+  -- What is due of `view` of such a label is what it writes of the part below the label alone.
+  pub viewed : (l : Label) (word : List ℕ) → is_uncrossed l a.world ≡ true → parse_label a.policy word ≡ Some l
+      → out_of (due (View word) other).order ≡ view_text l (session_alone l a script)
+
+-- a run of `never`, with this status
+pub record SaysNever (status : Status) (old now : Reports) : Type 0 where
+  -- The output is what is said of the world, and that holds of each input with this world, whatever script follows it.
+  pub for_all : status ≡ Done → OnAccepted (reports_used Never old) (reports_used Never now)
+      (λ a script out trail. (out ≡ never_text a)
+      × ((other : List ℕ) → (input_of other).accepted ≡ Some a → HoldsOf a other (input_of other).script))
 
 -- a run of `lineage`, with this status
 pub record ChecksLineage (status : Status) (old now : Reports) : Type 0 where

@@ -8,13 +8,13 @@ use Rattle.kern_model.specs.declared.limits.TheConstants.{MAX_INPUT}
 use Rattle.lab_engine.specs.Counts.{Counts, counts}
 use Rattle.lab_engine.specs.Order.{IsInOrder, out_of, trail_of}
 use Rattle.labsys.specs.declared.command.Command.{Command}
-use Rattle.labsys.specs.declared.command.Command.TheVariants.{Play, Sched, View, Upgrade, Least, Lineage}
+use Rattle.labsys.specs.declared.command.Command.TheVariants.{Play, Sched, View, Upgrade, Least, Never, Lineage}
 use Rattle.labsys.specs.declared.status.Status.{Status}
 use Rattle.labsys.specs.declared.status.Status.TheVariants.{Done, Usage, ReadFault, TrailFault, NoMemory}
 use Rattle.labsys.specs.Clauses.{OnWhole, Reports, TakesAtMost, WhereReported, if_used, reports, reports_used}
 use Rattle.labsys.specs.Commands.{command_of, due, reads_source, writes_trail}
 use Rattle.labsys.specs.Counts.{counts_after}
-use Rattle.labsys.specs.Promises.{ChecksLineage, Narrows, Plays, Upgrades, Views}
+use Rattle.labsys.specs.Promises.{ChecksLineage, Narrows, Plays, SaysNever, Upgrades, Views}
 use Rattle.labsys.specs.ScheduleClauses.{Schedules}
 
 -- what contracts see of the source, the output and the trail
@@ -76,6 +76,9 @@ pub record Runs (words : List (String Global)) (status : Status) (old now : RunE
   -- What `least` promises besides: the world without the capabilities that the script did not need gives the same
   -- replies to it.
   pub least : command_of words ≡ Some Least → Narrows status (reports_of old) (reports_of now)
+  -- What `never` promises besides: what it says of the world holds of each input with this world, whatever script
+  -- follows it.
+  pub never : command_of words ≡ Some Never → SaysNever status (reports_of old) (reports_of now)
   -- What `lineage` promises besides: each record of the trail may come after those before it, or the first that may not
   -- is named.
   pub lineage : command_of words ≡ Some Lineage → ChecksLineage status (reports_of old) (reports_of now)

@@ -70,6 +70,9 @@ pub enum Command<'a> {
     /// `least` plays the world and the script that the source holds, and writes the world without the capabilities that
     /// were not needed.
     Least,
+    /// `never` reads the world and the script that the source holds, plays nothing, and writes what no script can do in
+    /// that world: the capabilities that none exercises, and the labels that nothing ever crosses.
+    Never,
     /// `select SPEC` reads the trail that the source holds, and writes the records that SPEC picks as lines of JSON.
     Select(Argument<'a>),
     /// `lineage` reads the trail that the source holds, and writes whether each record may follow those before it.
@@ -115,6 +118,7 @@ fn command_named<'a>(given: &GivenWords<'a>) -> Option<Command<'a>>
         ("drill", Some(number)) => Some(Command::Drill(lines_of(number.as_bytes())?)),
         ("upgrade", None) => Some(Command::Upgrade),
         ("least", None) => Some(Command::Least),
+        ("never", None) => Some(Command::Never),
         ("select", Some(spec)) => Some(Command::Select(Argument::new(spec.as_bytes()))),
         ("lineage", None) => Some(Command::Lineage),
         _ => None,

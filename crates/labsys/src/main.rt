@@ -8,6 +8,7 @@ mod drilling;
 mod generating;
 mod least;
 mod lineage;
+mod never;
 mod performing;
 mod playing;
 mod running;

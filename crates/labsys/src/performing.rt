@@ -10,6 +10,7 @@ use crate::drilling::drill;
 use crate::generating::generate;
 use crate::least::least;
 use crate::lineage::lineage;
+use crate::never::never;
 use crate::playing::{end_without_world, play};
 use crate::scheduling::sched;
 use crate::selecting::select;
@@ -58,6 +59,7 @@ fn perform_on_input<S: Source, K: Sink, T: Sink>(
         Command::View(word) => view(alloc, word, opened, source, out),
         Command::Upgrade => upgrade(alloc, opened, source, out),
         Command::Least => least(alloc, opened, source, out),
+        Command::Never => never(alloc, opened, source, out),
         Command::Gen(_) | Command::Drill(_) | Command::Select(_) | Command::Lineage => {
             unreachable!()
         }
@@ -98,6 +100,7 @@ pub fn perform<S: Source, K: Sink, T: Sink>(
         | Command::Check
         | Command::View(_)
         | Command::Upgrade
-        | Command::Least => perform_on_input(alloc, command, source, out, trail),
+        | Command::Least
+        | Command::Never => perform_on_input(alloc, command, source, out, trail),
     }
 }

@@ -14,7 +14,7 @@ use crate::playing::{end_without_world, finish};
 use io_ends::{Sink, Source};
 use kern_core::Kernel;
 use lab_engine::{Fault, InputEnd, OpenedWorld, Played, Texts, write_head};
-use sched_engine::{ReadSchedule, Schedule, read_schedule, report_programs};
+use sched_engine::{ReadSchedule, Schedule, Started, read_schedule, report_programs};
 use std::alloc::Global;
 use world_text::WorldText;
 
@@ -43,7 +43,11 @@ fn run_schedule<K: Sink, T: Sink>(
     let (mut kernel, recs) = Kernel::boot_from(alloc, world)?;
     write_head(texts, &bound, recs.items(), trail)?;
     let living = kernel.live()?;
-    let count = report_programs(&mut kernel, &living, schedule, texts, out, trail)?;
+    let started = Started {
+        living: &living,
+        schedule,
+    };
+    let count = report_programs(&mut kernel, started, texts, out, trail)?;
     let played = Played {
         count,
         ending: InputEnd::Whole,

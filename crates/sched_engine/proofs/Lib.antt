@@ -1,4 +1,3 @@
-pub mod Decisions
 pub mod ItemLemmas
 pub mod LineLemmas
 pub mod ProgramLemmas

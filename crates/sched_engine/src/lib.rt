@@ -7,5 +7,5 @@ mod reporting;
 mod schedule;
 
 pub use reading::{ReadSchedule, read_schedule};
-pub use reporting::{ProgramReporter, report_programs};
+pub use reporting::{Started, report_programs};
 pub use schedule::Schedule;

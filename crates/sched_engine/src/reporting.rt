@@ -1,68 +1,45 @@
 // What reports the calls of programs.
-ghost use Rattle.std.specs.Prelude.{◌≡◌, ◌+◌, ◌∷◌, [], true, IfOk, OnOk, None, Some, length};
+ghost use Rattle.std.specs.Prelude.{◌≡◌, ◌+◌, [], true, IfOk, OnOk, length};
 ghost use Rattle.std.specs.FinMap as map;
 ghost use Rattle.kern_model.specs.Valid.{IsValid};
-ghost use Rattle.lab_engine.specs.Texts.{reply_text as reply_of};
-ghost use Rattle.lab_engine.specs.declared.ending.Fault.TheVariants.{Read};
-ghost use Rattle.lab_engine.specs.Playing.{WritesBoth, WritesOut};
+ghost use Rattle.lab_engine.specs.declared.reporting.Report.TheVariants as a_report;
+ghost use Rattle.lab_engine.specs.Player.{SameBorrows, WritesTo};
+ghost use Rattle.lab_engine.specs.Playing.{WritesBoth};
 ghost use Rattle.lab_engine.specs.Readable.{AreReadable};
+ghost use Rattle.lab_engine.specs.Report.{call_sends};
+ghost use Rattle.lab_engine.specs.Reporter.{HasCall, HasSeen, call_on, calls_seen};
 ghost use Rattle.lab_text.specs.Policy.{top_of};
 ghost use Rattle.sched_progs.specs.Loop.{loop, loop_end};
 ghost use Rattle.sched_progs.specs.Programs.{are_programs};
-ghost use Rattle.sched_progs.specs.Watching.{item_of};
-ghost use Rattle.sched_progs.specs.Chosen.{record_of_item};
-ghost use Rattle.sched_engine.specs.Reporting.{AreItemsReadable, HoldItemsSince, item_sends, items_in, items_sends, sched_fault_of};
+ghost use Rattle.sched_engine.specs.Reporting.{AreItemsReadable, IsGoing, items_in, items_sends, sched_fault_of};
 
 use crate::schedule::Schedule;
 use ghost_list::GhostList;
 use io_ends::Sink;
 use kern_model::{Call, Calls, NoMemory, Outcome, Pid, PidList};
-use lab_engine::{Fault, Texts, answer, note_all};
+use lab_engine::{Fault, ReplyLine, Report, Reporter, Texts};
 use sched_progs::{SchedFault, Watch, run_programs};
-use script_text::reply_text;
-use std::mem::replace;
 
-// A call that a program made, with what came of it.
-#[derive(Clone, Copy)]
-struct MadeCall<'a> {
-    who: &'a Pid,
-    call: &'a Call,
-    outcome: &'a Outcome,
-}
-
-// Writes the reply to a call. The text in `buffer` is not read.
-fn write_reply<K: Sink>(
-    texts: Texts<'_>,
-    made: MadeCall<'_>,
-    buffer: &mut Vec<u8>,
-    out: &mut K,
-) -> Result<(), Fault>
-    ensures { WritesOut result (reply_of texts.entry.policy.now (record_of_item (item_of made.entry.who.now made.entry.call.now made.entry.outcome.now))) (K.view out.old) (K.view out.new) }
-{
-    let room = replace(buffer, Vec::new(texts.alloc));
-    let word = made.call.name().word();
-    *buffer = reply_text(room, texts.policy, made.who, word, &made.outcome.reply)?;
-    answer(out, buffer)
-}
-
-// Writes the records of a call and then its reply, after `count` calls, and returns the number of the call. Where a `u64`
-// cannot hold the number, it returns out of memory.
-fn write_call<K: Sink, T: Sink>(
-    texts: Texts<'_>,
+// Reports a call after `count` others, and returns its number. Where a `u64` cannot hold the number, it returns out of
+// memory.
+fn report_next<K: Sink, T: Sink>(
+    reporter: &mut Reporter<'_, K, T>,
     count: u64,
-    made: MadeCall<'_>,
-    buffer: &mut Vec<u8>,
-    out: &mut K,
-    trail: &mut T,
+    call: ReplyLine<'_>,
+    outcome: &Outcome,
 ) -> Result<u64, Fault>
-    ensures writes { WritesBoth result (item_sends texts.entry.policy.now (count + 1) (item_of made.entry.who.now made.entry.call.now made.entry.outcome.now))
-        (K.view out.old) (K.view out.new) (T.view trail.old) (T.view trail.new) }
+    requires call { HasCall call }
+    requires all { reporter.old.report ≡ a_report.All }
+    requires seen { HasSeen count reporter.old.seen.items reporter.old.stopped.items }
+    ensures writes { WritesTo result (call_sends a_report.All reporter.old.texts.policy.now (count + 1) (call_on call.entry outcome.now)) reporter.old reporter.new }
     ensures number { IfOk result (λ number. number ≡ count + 1) }
-    ensures readable { OnOk result (AreReadable texts.entry.policy.now (count + 1) made.entry.outcome.now.recs) }
+    ensures readable { OnOk result (AreReadable reporter.old.texts.policy.now (count + 1) outcome.now.recs) }
+    ensures kept { OnOk result (reporter.new.report ≡ a_report.All) }
+    ensures shown { OnOk result (HasSeen (count + 1) reporter.new.seen.items reporter.new.stopped.items) }
+    ensures same { SameBorrows reporter.old reporter.new }
 {
     let number = count.checked_add(1).ok_or(NoMemory)?;
-    note_all(texts, number, made.outcome.recs.items(), buffer, trail)?;
-    write_reply(texts, made, buffer, out)?;
+    reporter.report_call(number, call, outcome)?;
     Ok(number)
 }
 
@@ -76,82 +53,26 @@ fn sched_fault(fault: Fault) -> SchedFault
     }
 }
 
-/// The ends that the calls of programs are reported to, with what their lines take.
-///
-/// Behind what the output and the trail held at the start they hold the records and the reply of each call that was seen,
-/// and after a refusal a prefix of those of the refused call, with its records before its reply. The fault that stopped it
-/// was counted once, and no other was.
+// A reporter that is told of the calls of programs.
 #[derive(Drop)]
-pub struct ProgramReporter<'a, K: Sink, T: Sink> {
-    // What writing a line takes.
-    texts: Texts<'a>,
-    // A text whose memory the next line takes.
-    buffer: &'a mut Vec<u8>,
-    out: &'a mut K,
-    trail: &'a mut T,
+struct ProgramReporter<'a, K: Sink, T: Sink> {
+    reporter: Reporter<'a, K, T>,
     // How many calls were seen.
     count: u64,
-    // The fault that stopped it, or none.
-    fault: Option<Fault>,
-    // The output and the trail as they were at the start.
-    start: GhostList<K, T, ()>,
+    // The fault that stopped it, or out of memory where none did.
+    fault: Fault,
     // The calls that were seen.
     seen: GhostList<Pid, Call, Outcome>,
     // The call that was refused, or none.
     refused: GhostList<Pid, Call, Outcome>,
-    ghost kept: { ∥ HoldItemsSince K.view T.view start.items texts.policy.now count fault (items_in seen.items) (items_in refused.items) (K.view out.now) (T.view trail.now) ∥₁ },
-}
-
-impl<'a, K: Sink, T: Sink> ProgramReporter<'a, K, T> {
-    /// A reporter over an output and a trail, which has seen no call. The text in `buffer` is not read.
-    pub fn new(texts: Texts<'a>, buffer: &'a mut Vec<u8>, out: &'a mut K, trail: &'a mut T) -> Self
-        ensures policy { result.texts.policy.now ≡ texts.entry.policy.now }
-        ensures same_out { result.out.ghost_name ≡ out.entry.ghost_name }
-        ensures same_trail { result.trail.ghost_name ≡ trail.entry.ghost_name }
-        ensures same_buffer { result.buffer.ghost_name ≡ buffer.entry.ghost_name }
-        ensures out { result.out.now ≡ out.old }
-        ensures trail { result.trail.now ≡ trail.old }
-        ensures start { result.start.items ≡ (out.old, (trail.old, tt)) ∷ [] }
-        ensures seen { result.seen.items ≡ [] }
-        ensures refused { result.refused.items ≡ [] }
-        ensures fault { result.fault ≡ None }
-    {
-        let start = GhostList::new().with(&*out, &*trail, &());
-        ProgramReporter {
-            texts,
-            buffer,
-            out,
-            trail,
-            count: 0,
-            fault: None,
-            start,
-            seen: GhostList::new(),
-            refused: GhostList::new(),
-        }
-    }
-
-    /// How many calls it has seen.
-    pub fn count(&self) -> u64
-        ensures { result ≡ length (items_in self.now.seen.items) }
-    {
-        self.count
-    }
-
-    /// The fault that stopped it, of the output, of the trail or of memory. There is none before a call is refused.
-    pub fn fault(&self) -> Option<Fault>
-        ensures fault { result ≡ self.now.fault }
-        ensures of_sink { result ≡ Some Read → ⊥ }
-        ensures going { items_in self.now.refused.items ≡ [] → result ≡ None }
-    {
-        self.fault
-    }
+    ghost going: { IsGoing (items_in refused.items) count fault reporter.report (calls_seen reporter.seen.items) (calls_seen reporter.stopped.items) },
 }
 
 impl<'a, K: Sink, T: Sink> Watch for ProgramReporter<'a, K, T> {
+    ghost use Rattle.io_ends.specs.Ends.{SinkView};
     ghost use Rattle.std.specs.Prelude.{refl};
     ghost use Rattle.std.proofs.Common.{◌∙◌};
-    ghost use Rattle.lab_engine.specs.Reporter.{SameEnds};
-    ghost use Rattle.sched_engine.specs.Reporting.{end_faults};
+    ghost use Rattle.sched_engine.specs.Reporting.{HoldItems, end_faults};
 
     ghost seen = { λ r. items_in r.seen.items };
 
@@ -159,20 +80,15 @@ impl<'a, K: Sink, T: Sink> Watch for ProgramReporter<'a, K, T> {
 
     ghost faults = { λ r. end_faults r.fault };
 
-    ghost top = { λ r. top_of r.texts.policy.now };
+    ghost top = { λ r. top_of r.reporter.texts.policy.now };
 
-    ghost same_rest = { λ a b. (b.start.items ≡ a.start.items) × SameEnds a.texts.policy.now b.texts.policy.now a.out b.out a.trail b.trail };
+    ghost same_rest = { λ a b. SameBorrows a.reporter b.reporter × ((out trail : SinkView)
+        → HoldItems a.reporter.texts.policy.now a.count a.fault (items_in a.seen.items) (items_in a.refused.items) out (K.view a.reporter.out.now) trail (T.view a.reporter.trail.now)
+        → HoldItems b.reporter.texts.policy.now b.count b.fault (items_in b.seen.items) (items_in b.refused.items) out (K.view b.reporter.out.now) trail (T.view b.reporter.trail.now)) };
 
     fn saw(&mut self, who: &Pid, call: &Call, outcome: &Outcome) -> Result<(), SchedFault> {
-        let made = MadeCall { who, call, outcome };
-        match write_call(
-            self.texts,
-            self.count,
-            made,
-            self.buffer,
-            self.out,
-            self.trail,
-        ) {
+        let line = ReplyLine::Program(who, call);
+        match report_next(&mut self.reporter, self.count, line, outcome) {
             Ok(number) => {
                 self.seen = self.seen.with(who, call, outcome);
                 self.count = number;
@@ -180,39 +96,53 @@ impl<'a, K: Sink, T: Sink> Watch for ProgramReporter<'a, K, T> {
             }
             Err(fault) => {
                 self.refused = self.refused.with(who, call, outcome);
-                self.fault = Some(fault);
+                self.fault = fault;
                 Err(sched_fault(fault))
             }
         }
     }
 
-    ghost rest_refl = { λ a. (refl, (refl, refl, refl)) };
+    ghost rest_refl = { λ a. ((refl, refl, refl), λ out trail held. held) };
 
-    ghost rest_trans = { λ a b c p q. (q.0 ∙ p.0, (q.1.0 ∙ p.1.0, p.1.1 ∙ q.1.1, p.1.2 ∙ q.1.2)) };
+    ghost rest_trans = { λ a b c p q. ((q.0.0 ∙ p.0.0, p.0.1 ∙ q.0.1, p.0.2 ∙ q.0.2), λ out trail held. q.1 out trail (p.1 out trail held)) };
+}
+
+/// A schedule, and the processes that live when it begins.
+#[derive(Clone, Copy)]
+pub struct Started<'a> {
+    pub living: &'a PidList,
+    pub schedule: &'a Schedule,
 }
 
 /// Runs the programs of a schedule in turns by label, those of the living processes, and reports each call as soon as it is
 /// answered: its records to the trail, and then its reply to the output. Returns how many calls there were.
 pub fn report_programs<C: Calls, K: Sink, T: Sink>(
     kernel: &mut C,
-    living: &PidList,
-    schedule: &Schedule,
+    started: Started<'_>,
     texts: Texts<'_>,
     out: &mut K,
     trail: &mut T,
 ) -> Result<u64, Fault>
     requires valid { IsValid (C.state kernel.old) }
-    requires living { living.now ≡ map.keys (C.state kernel.old).procs }
-    requires programs { are_programs (C.state kernel.old).top schedule.now.programs ≡ true }
+    requires living { started.living.now ≡ map.keys (C.state kernel.old).procs }
+    requires programs { are_programs (C.state kernel.old).top started.schedule.now.programs ≡ true }
     requires top { (C.state kernel.old).top ≡ top_of texts.policy.now }
-    ensures writes { WritesBoth result (items_sends texts.entry.policy.now (loop (C.state kernel.old) schedule.now.programs schedule.now.slices schedule.now.rounds))
+    ensures writes { WritesBoth result (items_sends texts.entry.policy.now (loop (C.state kernel.old) started.entry.schedule.now.programs started.entry.schedule.now.slices started.entry.schedule.now.rounds))
         (K.view out.old) (K.view out.new) (T.view trail.old) (T.view trail.new) }
-    ensures count { IfOk result (λ count. count ≡ length (loop (C.state kernel.old) schedule.now.programs schedule.now.slices schedule.now.rounds)) }
-    ensures state { OnOk result (C.state kernel.new ≡ loop_end (C.state kernel.old) schedule.now.programs schedule.now.slices schedule.now.rounds) }
-    ensures readable { OnOk result (AreItemsReadable texts.entry.policy.now (loop (C.state kernel.old) schedule.now.programs schedule.now.slices schedule.now.rounds)) }
+    ensures count { IfOk result (λ count. count ≡ length (loop (C.state kernel.old) started.entry.schedule.now.programs started.entry.schedule.now.slices started.entry.schedule.now.rounds)) }
+    ensures state { OnOk result (C.state kernel.new ≡ loop_end (C.state kernel.old) started.entry.schedule.now.programs started.entry.schedule.now.slices started.entry.schedule.now.rounds) }
+    ensures readable { OnOk result (AreItemsReadable texts.entry.policy.now (loop (C.state kernel.old) started.entry.schedule.now.programs started.entry.schedule.now.slices started.entry.schedule.now.rounds)) }
 {
     let room = &mut Vec::new(texts.alloc);
-    let mut reporter = ProgramReporter::new(texts, room, out, trail);
+    let reporter = Reporter::new(texts, Report::All, room, out, trail);
+    let mut watch = ProgramReporter {
+        reporter,
+        count: 0,
+        fault: Fault::NoMemory,
+        seen: GhostList::new(),
+        refused: GhostList::new(),
+    };
+    let Started { living, schedule } = started;
     match run_programs(
         texts.alloc,
         kernel,
@@ -220,9 +150,9 @@ pub fn report_programs<C: Calls, K: Sink, T: Sink>(
         &schedule.programs,
         &schedule.slices,
         schedule.rounds,
-        &mut reporter,
+        &mut watch,
     ) {
-        Ok(()) => Ok(reporter.count()),
-        Err(_) => Err(reporter.fault().unwrap_or(Fault::NoMemory)),
+        Ok(()) => Ok(watch.count),
+        Err(_) => Err(watch.fault),
     }
 }

@@ -20,3 +20,4 @@ pub use fault::WorldError;
 pub use format::Format;
 pub use std::alloc::AllocError as NoMemory;
 pub use world::WorldText;
+pub use writing::path_text;

@@ -17,7 +17,7 @@ use Rattle.kern_model.specs.declared.world.ScriptItem.{ScriptItem}
 use Rattle.kern_model.specs.Step.{step}
 use Rattle.lab_text.specs.Policy.{PolicyNames}
 use Rattle.lab_engine.specs.Readable.{AreReadable}
-use Rattle.lab_engine.specs.Reporter.{HasCall, calls_seen, item_on, who_on}
+use Rattle.lab_engine.specs.Reporter.{HasCallAt, calls_seen, item_on, who_on}
 use Rattle.lab_engine.specs.Report.{CountsAtMost, items_reported, report_after}
 use Rattle.lab_engine.proofs.ReportLemmas.{after_first, after_none, call_stays, counts_call, counts_longer, items_none}
 use Rattle.lab_engine.proofs.ReadableLemmas.{readable_call, readable_none}
@@ -39,8 +39,8 @@ module _ (line : Line) (util : Util) (same : line ≡ a_line.Tool util) (whole :
       ∙ ap (λ (c : Call). item_of util (get_or util.texts at []) c ∷ drop (at + 1) (items_of util)) (ap (λ (cs : List Call). get_or cs at call) (sym are) ∙ sym is)
       ∙ ap (λ (l : Line). item_on l at call ∷ drop (at + 1) (items_of util)) (sym same)
 
-  has_call : HasCall line at
-  has_call = subst (λ (l : Line). HasCall l at) (sym same) (within_paths, whole)
+  has_call : HasCallAt line at
+  has_call = subst (λ (l : Line). HasCallAt l at) (sym same) (within_paths, whole)
 
 -- no item is left after the last call
 no_more : (util : Util) → IsWhole util → (calls : List Call) → length calls ≡ length util.paths → (at : ℕ) → length calls ≤ at → drop at (items_of util) ≡ []

@@ -41,6 +41,9 @@ upgrade-requires g c = is_opened _ _ _ c.in_ok-opened.ensures.opens c.in-World.o
 pub least-requires : goal.least-requires
 least-requires g c = is_opened _ _ _ c.in_ok-opened.ensures.opens c.in-World.opened c.in-World.is
 
+pub never-requires : goal.never-requires
+never-requires g c = is_opened _ _ _ c.in_ok-opened.ensures.opens c.in-World.opened c.in-World.is
+
 pub returns-in-Play-clause-did : goal.returns-in-Play-clause-did
 returns-in-Play-clause-did g c = did_as c.args.command c.requires _ c.format_of.ensures _ _ _ c.in_ok-opened.ensures.opens _ _ _ _ c.in_ok-opened.ensures.counts c.in-World.opened c.in-World.is c.play.result _ _ _ c.in-Play.is c.play.ensures
 
@@ -78,3 +81,11 @@ pub returns-in-Least-clause-trail_fault : goal.returns-in-Least-clause-trail_fau
 returns-in-Least-clause-trail_fault g c = λ is.
     absurd (no_trail_did c.args.command c.least.result _ _ _ _ _ _
     (did_as c.args.command c.requires _ c.format_of.ensures _ _ _ c.in_ok-opened.ensures.opens _ _ _ _ c.in_ok-opened.ensures.counts c.in-World.opened c.in-World.is c.least.result _ _ _ c.in-Least.is (c.least.ensures (sink_view None 0))) is)
+
+pub returns-in-Never-clause-did : goal.returns-in-Never-clause-did
+returns-in-Never-clause-did g c = did_as c.args.command c.requires _ c.format_of.ensures _ _ _ c.in_ok-opened.ensures.opens _ _ _ _ c.in_ok-opened.ensures.counts c.in-World.opened c.in-World.is c.never.result _ _ _ c.in-Never.is (c.never.ensures _)
+
+pub returns-in-Never-clause-trail_fault : goal.returns-in-Never-clause-trail_fault
+returns-in-Never-clause-trail_fault g c = λ is.
+    absurd (no_trail_did c.args.command c.never.result _ _ _ _ _ _
+    (did_as c.args.command c.requires _ c.format_of.ensures _ _ _ c.in_ok-opened.ensures.opens _ _ _ _ c.in_ok-opened.ensures.counts c.in-World.opened c.in-World.is c.never.result _ _ _ c.in-Never.is (c.never.ensures (sink_view None 0))) is)
