@@ -1,11 +1,12 @@
 #!/usr/bin/env python3
 """Measures how long `labask who` takes for all objects of hospitals of growing size.
 
-    bench/labask.py [--cmd PROGRAM] [--jobs N] [--write FOLDER] [OBJECTS ...]
+    bench/labask.py [--cmd PROGRAM] [--jobs N] [--write FOLDER] [--calls] [OBJECTS ...]
 
 A hospital has wards with rooms, and in each room the records of its patients, a board and a FIFO. Each ward is a category and a
 group, with a doctor and a nurse; a pharmacist, an administrator, an archive program and a visitor are of no ward. With --write
-the worlds are only written, each to a file FOLDER/hospital-OBJECTS.txt.
+the worlds are only written, each to a file FOLDER/hospital-OBJECTS.txt; with --calls they have a script, in which the staff of each
+ward goes to the records of its ward and of the next one.
 """
 import argparse
 import pathlib
@@ -53,8 +54,20 @@ def processes(wards):
                     'proc public 7 7 - "="']
 
 
-def hospital(objects):
-    """A world with so many objects; its script has no call."""
+def calls_on(room_path):
+    """The calls of someone who comes to a room."""
+    return [f"readdir {room_path}", f"open {room_path}/board r", f"stat {room_path}/record0", f"open {room_path}/record0 r",
+            f"open {room_path}/record1 w", f"chmod {room_path}/record2 0666"]
+
+
+def rounds(wards):
+    """A script in which the doctor and the nurse of each ward come to a room of their ward and of the next one."""
+    return [f"{tag} {call}" for ward in range(wards) for tag in (f"1@patient:w{ward:02d}", f"{ward + 1}@staff")
+            for other in (ward, (ward + 1) % wards) for call in calls_on(f"/wards/w{other:02d}/r000")]
+
+
+def hospital(objects, with_calls=False):
+    """A world with so many objects; its script has no call, or those of rounds."""
     wards = wards_of(objects)
     lines = head(wards) + [f"dir /wards/w{ward:02d} 0755 {1000 + ward} {100 + ward} public" for ward in range(wards)]
     left, number = objects - (len(lines) - 4), 0
@@ -62,7 +75,7 @@ def hospital(objects):
         size = min(ROOM, left)
         lines += room(number % wards, number // wards, size)
         left, number = left - size, number + 1
-    return "\n".join(lines + processes(wards) + ["script"]) + "\n"
+    return "\n".join([*lines, *processes(wards), "script", *(rounds(wards) if with_calls else ())]) + "\n"
 
 
 def seconds_of(command, world):
@@ -82,12 +95,13 @@ def main():
     parser.add_argument("--cmd", default=str(BUILT), metavar="PROGRAM", help="the program labsys")
     parser.add_argument("--jobs", metavar="N", help="how many plays run side by side")
     parser.add_argument("--write", metavar="FOLDER", help="write the worlds, and measure nothing")
+    parser.add_argument("--calls", action="store_true", help="write worlds with a script")
     parser.add_argument("sizes", metavar="OBJECTS", nargs="*", type=int, default=SIZES, help="the numbers of objects")
     words = parser.parse_args()
     with tempfile.TemporaryDirectory() as name:
         folder = pathlib.Path(words.write or name)
         for size in words.sizes:
-            text, path = hospital(size), folder / f"hospital-{size}.txt"
+            text, path = hospital(size, words.calls), folder / f"hospital-{size}.txt"
             path.write_text(text, encoding="ascii")
             if words.write:
                 continue

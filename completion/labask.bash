@@ -18,17 +18,30 @@ _labask() {
     who) options="--process --ever --calls --depth --states --jobs --time --quiet" ;;
     why) options="--against --process --jobs --time --quiet" ;;
     flow) options="--without --scripts --depth --states --jobs --time --quiet" ;;
+    never) options="--jobs --time --quiet" ;;
     cuts) options="--flow --keep --apply --depth --states --jobs --time --quiet" ;;
-    page) options="--output --label" ;;
+    orders) options="--rule --states --orders --jobs --time --quiet" ;;
+    page) options="--output --label --jobs" ;;
+    serve) options="--port --time" ;;
+    test) options="--world --tap --junit --scripts --depth --states --jobs --time --quiet" ;;
+    diff) options="--flows --depth --states --jobs --time --quiet" ;;
+    lint) options="--jobs --time --quiet" ;;
+    label) options="--lattice" ;;
+    shell) options="--why" ;;
+    fmt) options="--check" ;;
+    fuzz) options="--against --map --no-place --out-only --seconds --worlds --seed --calls --most --cases --jobs --quiet" ;;
+    shrink) options="--against --map --no-place --out-only --case --jobs --time --quiet" ;;
+    case) options="--note" ;;
     world) options="--bytes --proc --labels --root-user" ;;
     trace) options="--directory --as --start --umask" ;;
     esac
     case $before in
-    --json | --help | --version | --all | --least | --ever | --calls | --scripts | --quiet) ;;
+    --scripts) [ "$question" = flow ] || return ;; # of test it has a value, the name of a directory
+    --json | --help | --version | --all | --least | --ever | --calls | --quiet | --tap | --flows | --check | --lattice | --why) ;;
     --*) return ;; # its value, which may be the name of a file
     esac
     if [ -z "$question" ]; then
-        mapfile -t COMPREPLY < <(compgen -W "check who why flow cuts page world trace $options" -- "$word")
+        mapfile -t COMPREPLY < <(compgen -W "check who why flow never cuts orders test diff lint label shell fmt fuzz shrink case page serve world trace $options" -- "$word")
     elif [[ $word = -* ]]; then
         mapfile -t COMPREPLY < <(compgen -W "$options --json --labsys --help" -- "$word")
     elif [ "$question" = world ]; then

@@ -412,6 +412,17 @@ def crates_of_minutes():
     return sorted(first_cells("docs/ARCHITECTURE.md", "What the gate takes"))
 
 
+def formats_of_version():
+    """The first lines of worlds and trails that the text of the version names."""
+    return match_in("docs/version.txt", r"^labsys [\d.]+ \((.*)\)$", "formats")[1].split(", ")
+
+
+def formats():
+    """The first line of a world in the newest format, and that of a trail."""
+    newest = re.findall(r'Format::\w+ => b"(\w+)"', text_of("crates/world_text/src/format.rt"))[-1]
+    return [f"world {newest}", match_in("crates/aud_record/src/header.rt", r'line\.bytes\(b"(trail \w+)\\n"\)', "first line")[1]]
+
+
 def syntax_words(group):
     """The words that the syntax of Vim has in a group."""
     lines = re.findall(rf"^syntax keyword {group} (.*)$", text_of("editor/labsys.vim"), re.M)
@@ -425,7 +436,7 @@ def parts_of_headline():
 
 def clauses_of_page():
     rows = rows_of(section_alone("docs/THEOREMS.md", "The other clauses of `run`"))
-    return sorted({name for cells in rows for name in CODE.findall(cells[1])} - {*fields_of_plays(), "view_alone", "upgraded", "narrowed", "answers"})
+    return sorted({name for cells in rows for name in CODE.findall(cells[1])} - {*fields_of_plays(), "view_alone", "upgraded", "narrowed", "for_all", "answers"})
 
 
 def in_order(words):
@@ -477,6 +488,7 @@ WORDS = [
     ),
     ("docs/labsys.1", "exit statuses", statuses_of_manual, statuses_of_script),
     ("docs/labsys.1", "messages", messages_of_manual, messages),
+    ("docs/version.txt", "formats", formats_of_version, formats),
     ("docs/help.txt", "exit statuses", statuses_of_help, statuses),
     ("crates/labsys/src/command.rt", "words of commands", words_of_program, words_with_arguments),
     ("docs/FORMATS.md", "commands", lambda: rows_with_words("docs/FORMATS.md", "Commands"), usages),
@@ -699,10 +711,15 @@ NUMBERS = [
     ("docs/FORMATS.md", "with status {WriteFault} or {TrailFault}, and raises no signal"),
     ("docs/FORMATS.md", "with a value from 1 to {LINES}."),
     ("docs/ASK.md", "| Question | Yes, {AskYes} | No, {AskNo} |"),
-    ("docs/ASK.md", "by the model; where that is not shown, the status is {AskStopped} |"),
+    ("docs/ASK.md", "by the model; where neither is shown, the status is {AskStopped} |"),
+    ("docs/ASK.md", "The exit status is {AskNo} where nothing crosses the label of any process"),
+    ("docs/ASK.md", "`--rule` may be repeated. The exit status is {AskYes} where a rule"),
+    ("docs/ASK.md", "none is broken and one could not be decided, the status is {AskStopped} |"),
+    ("docs/ASK.md", "could not be decided and nothing else differs, the status is {AskStopped} |"),
     ("docs/ASK.md", "The exit status is {AskYes} where a call that was asked about was denied or refused, {AskNo} where none was, and {AskStopped} where"),
     ("docs/ASK.md", "where a reply is not as the model has it, that is said, with the status {AskNoProgram}."),
     ("docs/ASK.md", "or by Ctrl-C. The status is {AskStopped} then."),
+    ("docs/ASK.md", "The exit status is {AskYes} where a rule"),
     ("docs/ASK.md", "The exit status is {AskNo} whether the runs differ or not."),
     ("docs/ASK.md", "The exit status is {AskYes} where a call is denied here or another difference is not known."),
     ("docs/FORMATS.md", "An input has at most {INPUT} bytes."),
@@ -756,6 +773,7 @@ NUMBERS = [
     ("docs/THEOREMS.md", "With status {Done} of `lineage`"),
     ("docs/THEOREMS.md", "After status {Done} of a command that reads the source"),
     ("docs/THEOREMS.md", "With status {Done} of `upgrade`"),
+    ("docs/THEOREMS.md", "With status {Done} of `never`, the output is"),
     ("docs/THEOREMS.md", "With status {Done} of `least`"),
     ("docs/THEOREMS.md", "Where each line of that text has at most {LINE} bytes, and the output with all that stands behind"),
     ("docs/THEOREMS.md", "of the input at most {INPUT}, the output and that are an input"),

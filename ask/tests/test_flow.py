@@ -24,9 +24,9 @@ pytestmark = pytest.mark.usefixtures("program")
 
 
 @st.composite
-def questions(draw):
-    """A random world, a file of it, a process or another file, and whether the label of this dominates that of the file."""
-    world = read_world(draw(worlds()))
+def questions(draw, caps=()):
+    """A random world with these capabilities, a file of it, a process or another file, and whether the label of this dominates that of the file."""
+    world = read_world(draw(worlds(caps)))
     files = [each for each in world.objects if each.kind is Kind.FILE]
     assume(files)
     source = draw(st.sampled_from(files))

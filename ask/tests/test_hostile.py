@@ -63,7 +63,8 @@ def require_answer(*command: str) -> None:
         assert out, command
 
 
-@pytest.mark.parametrize("question", [("check",), ("check", "--all"), ("who", "--json"), ("why",), ("flow", "--depth", "4")])
+@pytest.mark.parametrize("question", [("check",), ("check", "--all"), ("who", "--json"), ("why",), ("flow", "--depth", "4"),
+                                      ("fmt",), ("lint",)])
 @LIMITS
 @given(text=st.one_of(texts, broken()))
 def test_any_file_has_an_answer(question: Tuple[str, ...], text: bytes) -> None:
@@ -74,7 +75,7 @@ def test_any_file_has_an_answer(question: Tuple[str, ...], text: bytes) -> None:
 
 
 @LIMITS
-@given(question=st.sampled_from(["check", "who", "why", "flow", "cuts"]), given_words=st.lists(words, max_size=3),
+@given(question=st.sampled_from(["check", "who", "why", "flow", "cuts", "diff", "fmt", "label", "lint", "test"]), given_words=st.lists(words, max_size=3),
        options=st.lists(st.sampled_from(OPTIONS), max_size=2), place=st.integers(0, 5))
 def test_any_command_line_has_an_answer(question: str, given_words: List[str], options: List[str], place: int) -> None:
     asked_words = [str(EXAMPLES[0]), *given_words, *options]

@@ -12,7 +12,7 @@ import pathlib
 import re
 import subprocess
 import sys
-from typing import Any, DefaultDict, List, Union
+from typing import Any, DefaultDict, List, Tuple, Union
 
 import pytest
 from page_html import read_page
@@ -80,6 +80,13 @@ def test_text_that_looks_like_html_stays_text(tmp_path: pathlib.Path) -> None:
 
 def test_page_goes_to_standard_output_without_a_file(tmp_path: pathlib.Path) -> None:
     assert labask("page", str(EXAMPLES / "lesson.txt"))[1] == make_page(EXAMPLES / "lesson.txt", tmp_path).read_bytes()
+
+
+@pytest.mark.parametrize("words", [("lesson.txt",), ("backup_for_all.txt", "backup_for_operators.txt"), ("lesson.txt", "--json")], ids=str)
+def test_page_does_not_depend_on_the_jobs(words: Tuple[str, ...]) -> None:
+    asked = [str(EXAMPLES / word) if word.endswith(".txt") else word for word in words]
+    pages = {labask("page", *asked, "--jobs", count) for count in "125"}
+    assert len(pages) == 1 and pages.pop()[0] == 0
 
 
 def test_label_that_is_named_alone(tmp_path: pathlib.Path) -> None:

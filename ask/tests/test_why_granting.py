@@ -32,8 +32,8 @@ PROGRAMS = ("flag", "inherits", "permits", "setid", "setidflag", "plain")
 @pytest.fixture
 def explained(player):
     """Gives the explanations of the calls of a script that were not done, by their numbers."""
-    def explain(script, bound="all"):
-        text = (WORLD.format(bound=bound) + script).encode()
+    def explain(script, bound="all", more=""):
+        text = (WORLD.format(bound=bound).replace("script\n", f"{more}script\n") + script).encode()
         return {each.reply.number: each for each in asking.explain_all(read_world(text), player.play_accepted(text), player)}
     return explain
 
@@ -116,6 +116,35 @@ def test_capabilities_of_the_trial_end_with_the_call(explained):
     found = explained(f"1@low fork\n1@low exec /bin/flag\n1@low fork\n4@low {READ}\n{later}4@low read 0 4\n")
     assert [each.call.reply.number for each in found[4].followers] == [8], "the read alone comes from the denied open"
     assert all(found[number].cause is None for number in (5, 6, 7))
+
+
+def test_calls_that_lead_to_nothing_are_tried_in_one_run(explained, player):
+    calls = [f"{tag} {call}\n" for tag in ("1@low", "2@low") for call in ("stat /secret", READ, "open /secret w", "chmod /secret/x 0", READ)]
+    alone = [passed(explained(call)[1]) for call in calls]
+    before = player.plays
+    found = explained("".join(calls))
+    assert [passed(found[number]) for number in range(1, len(calls) + 1)] == alone and None not in alone
+    assert player.plays - before == 4, "the script, its records, what is observed, and one trial"
+
+
+def test_an_open_is_followed_by_calls_on_its_descriptor(explained):
+    found = explained(f"1@low {READ}\n1@low fork\n1@low {READ}\n3@low read 1 4\n1@low {READ}\n")
+    assert [[each.call.reply.number for each in found[number].followers] for number in (1, 3, 5)] == [[], [], []]
+    found = explained(f"1@low {READ}\n1@low fork\n1@low {READ}\n3@low read 0 4\n1@low {READ}\n")
+    assert [[each.call.reply.number for each in found[number].followers] for number in (1, 3, 5)] == [[4], [], []]
+
+
+def test_a_caller_whose_run_departs_leaves_the_others_their_own(explained):
+    sets = "cap_chown=i " * 168 + "all= ="  # which leaves no room in the line for what the caller would be permitted
+    found = explained(f"1@low cap_set_proc \"{sets}\"\n2@low {READ}\n1@low {READ}\n2@low {READ}\n")
+    assert [passed(found[number]) for number in (2, 4)] == [(("cap_dac_read_search",), (), "ok 0")] * 2
+    assert passed(found[3]) is None
+
+
+def test_a_caller_that_can_have_no_child(explained):
+    crowd = 'proc low 10 10 - "="\n' * 4_093
+    found = explained("1@low fork\n1@low cap_set_proc \"cap_kill=ep cap_chown=i\"\n", more=crowd)
+    assert passed(found[2]) == ((), ("cap_chown", "cap_kill"), "ok")
 
 
 def test_every_denied_call_of_a_generated_input_is_tried(player):

@@ -1,3 +1,3 @@
 """Questions about a world of `labsys`, answered by playing calls."""
 
-__version__ = "1.0.0"  # that of docs/version.txt, which is not installed
+__version__ = "2.0.0"  # that of docs/version.txt, which is not installed

@@ -31,18 +31,18 @@ class Aftermath:
         self.trial, self.run, self.session = trial, trial.run, trial.session
         self.found, self.denied = found, denied
         self.held = () if line.call in OWN_SETS else found.capabilities
-        self.relatives = frozenset(self.run.history.relatives(trial.tag))
+        self.relatives = frozenset(self.run.history.relatives(line.tag))
         self.settle(line)
 
     def settle(self, line: ScriptLine) -> None:
         """Gives processes the sets of the run itself; a call that sets those of the caller leaves its own."""
         history, due = self.run.history, {}
-        for each in self.relatives:
+        for each in history.relatives(*self.trial.tags):
             caps = history.caps_before(each, self.denied.number)
-            if caps is not None and (each != self.trial.tag or line.call not in OWN_SETS):
+            if caps is not None and (each != line.tag or line.call not in OWN_SETS):
                 due[each] = caps
         if self.held:
-            due[self.trial.tag] += f" {','.join(self.held)}+p"
+            due[line.tag] += f" {','.join(self.held)}+p"
         self.session.calls([f"{each} cap_set_proc {caps_word(caps)}" for each, caps in due.items()])
 
     def calls(self, last: int) -> Iterator[Later]:

@@ -50,7 +50,7 @@ class Workers:
 
     def __init__(self, run: Run):
         self.run = run
-        self.last = max((reply.number for reply in run.replies if reply.outcome is not Outcome.DONE), default=0)
+        self.last = run.not_done[-1].number if run.not_done else 0
         self.own = threading.local()
         self.all: "deque[Trials]" = deque()
 

@@ -95,9 +95,9 @@ def processors() -> int:
     return len(os.sched_getaffinity(0)) if hasattr(os, "sched_getaffinity") else os.cpu_count() or 1
 
 
-def default_effort() -> Effort:
-    """The effort of a question that has no option for it: all processors, and no end."""
-    return Effort(processors(), quiet=not sys.stderr.isatty())
+def default_effort(jobs: Optional[int] = None) -> Effort:
+    """The effort of a question that is answered whole: no end, and as many plays side by side as there are processors, or as said."""
+    return Effort(jobs or processors(), quiet=not sys.stderr.isatty())
 
 
 def number_of_jobs(text: str) -> int:
@@ -108,17 +108,31 @@ def number_of_jobs(text: str) -> int:
     return count
 
 
-def add_effort_arguments(parser: argparse.ArgumentParser) -> None:
-    """Adds the options that say how much work a question may be."""
+def add_jobs_argument(parser: argparse.ArgumentParser) -> None:
+    """Adds the option that says how many plays run side by side."""
     parser.add_argument("--jobs", metavar="N", type=number_of_jobs, help="how many plays run side by side; by default as many as there "
                         "are processors")
-    parser.add_argument("--time", metavar="SECONDS", type=number, help="stop after so many seconds, and answer what is known by then")
+
+
+def add_playing_arguments(parser: argparse.ArgumentParser) -> None:
+    """Adds the options of a question that says by itself how long it takes."""
+    add_jobs_argument(parser)
     parser.add_argument("--quiet", action="store_true", help="show no progress on a terminal")
+
+
+def add_effort_arguments(parser: argparse.ArgumentParser) -> None:
+    """Adds the options that say how much work a question may be."""
+    add_playing_arguments(parser)
+    parser.add_argument("--time", metavar="SECONDS", type=number, help="stop after so many seconds, and answer what is known by then")
 
 
 def effort_of(arguments: argparse.Namespace) -> Effort:
     """The effort that a command line allows. From here on Ctrl-C ends the work, and not the program."""
-    until = None if arguments.time is None else time.monotonic() + arguments.time
+    return jobs_effort(arguments, None if arguments.time is None else time.monotonic() + arguments.time)
+
+
+def jobs_effort(arguments: argparse.Namespace, until: Optional[float]) -> Effort:
+    """The same, until a moment that the question itself gives."""
     effort = Effort(arguments.jobs or processors(), until, arguments.quiet or not sys.stderr.isatty())
     if threading.current_thread() is threading.main_thread() and signal.getsignal(signal.SIGINT) is signal.default_int_handler:
         signal.signal(signal.SIGINT, effort.interrupt)

@@ -5,15 +5,17 @@ The script is looked for in the model of the kernel, and what is found is played
 import argparse
 import dataclasses
 from dataclasses import dataclass
-from typing import Any, Dict, Iterator, List, Optional, Sequence, Tuple, Union
+from typing import Any, Callable, Dict, Iterator, List, Optional, Sequence, Tuple, Union
 
 from labask.answers import PLAYED, Status, WrongWords, table, write_json
 from labask.effort import Effort, add_effort_arguments, effort_of
+from labask.flow_proof import Proof, Proofs, in_the_way
 from labask.kernel.calls import MOST_FILE_BYTES, Call as KernelCall
 from labask.kernel.state import Labels, first_state
 from labask.kernel.texts import call_text
 from labask.observing import with_observer
 from labask.playing import Outcome, Played, Player, PlayingFault
+from labask.proved import proved
 from labask.search.finding import Ending, Line, Result, Search
 from labask.search.limits import DEPTH, STATES, Limits, add_limit_arguments, limits_of
 from labask.search.problem import MARK, Problem
@@ -227,7 +229,7 @@ def goals_of(world: World, text: str) -> List[Goal]:
         label = world.policy.canonical(text[len("label:"):])
         found += [each.tag for each in world.processes if each.label == label]
         found += [each.path for each in world.objects if each.label == label and each.kind is not Kind.DIRECTORY]
-    elif "@" in text and not text.startswith("/"):
+    elif text in world.processes_by_name or "@" in text and not text.startswith("/"):
         found += [each.tag for each in processes_named(world, text)]
     else:
         found += goal_objects(text, objects_named(world, text) if text.startswith("/") else [])
@@ -252,11 +254,12 @@ def goal_text(goal: Goal) -> str:
 
 @dataclass(frozen=True)
 class Answer:
-    """The answer for a pair: the script if one was found, and how the search ended."""
+    """The answer for a pair: the script if one was found, how the search ended, and what is proved; then there was no search."""
     source: bytes
     goal: Goal
     found: Optional[Found]
     result: Result
+    proof: Proof = Proof()
 
     @property
     def status(self) -> Status:
@@ -268,12 +271,15 @@ class Answer:
     @property
     def short(self) -> str:
         """The answer as a cell of a table."""
+        if self.proof.label is not None:
+            return "never, proved"
         return f"{len(self.found.calls)} calls" if self.found is not None else SHORT[self.result.ending]
 
     def as_json(self) -> Dict[str, Any]:
         """The answer as JSON has it."""
         found = self.found
-        return {"played": True, "found": found is not None, "ending": self.result.ending.value, "from": self.source.decode("latin-1"),
+        return {"played": self.proof.label is None, "proved": self.proof.label is not None, "in_the_way": list(self.proof.obstacles),
+                "found": found is not None, "ending": self.result.ending.value, "from": self.source.decode("latin-1"),
                 "to": self.goal if isinstance(self.goal, str) else self.goal.decode("latin-1"),
                 "calls": [dataclasses.asdict(call) for call in found.calls] if found else [],
                 "world": found.world.decode("latin-1") if found else None, "excluded_calls": self.result.excluded,
@@ -307,9 +313,14 @@ def why_stopped(answer: Answer, limits: Limits) -> str:
 def report(answer: Answer, limits: Limits, without: Sequence[str]) -> Iterator[str]:
     """The lines of the answer; those before the world are comments of it."""
     source, goal, found = path_word(answer.source), goal_text(answer.goal), answer.found
+    if answer.proof.label is not None:
+        yield f"No script at all: no bytes of {source} get to {goal}, whatever is called, proved by `labsys never`."
+        yield f"What {answer.proof.label} and the labels below it see is the same whatever else is in the world, and FROM is no part of that."
+        return
     if found is None:
         unused = f" that do not use {' and '.join(without)}" if without else ""
         yield f"No calls{unused} were found by which the bytes of {source} get to {goal}."
+        yield from in_the_way([answer.proof])
         yield why_stopped(answer, limits)
         yield f"{answer.result.seen} states were looked at."
         yield LOOKED_FOR
@@ -317,6 +328,7 @@ def report(answer: Answer, limits: Limits, without: Sequence[str]) -> Iterator[s
     yield f"# The bytes of {source} get to {goal} by {len(found.calls)} calls:"
     yield from table([[call.text, call.reply, call.means] for call in found.calls], "#   ")
     yield f"# {shortest(answer)} {PLAYED}"
+    yield from (f"# {line}" for line in in_the_way([answer.proof]))
     yield "# This is a world to play it in:"
     yield found.world.decode("latin-1").rstrip("\n")
 
@@ -331,12 +343,16 @@ def report_all(answers: Sequence[Answer], pairs: int, scripts: bool) -> Iterator
             yield f"# {path_word(each.source)} to {goal_text(each.goal)}:"
             yield from table([[call.text, call.reply, call.means] for call in each.found.calls])
     found = sum(each.found is not None for each in answers)
-    yield f"{pairs} pairs were asked, {len(answers)} were looked at, and {found} have a script. {PLAYED}"
+    shown = sum(each.proof.label is not None for each in answers)
+    yield f"{pairs} pairs were asked, {len(answers) - shown} were looked at, and {found} have a script. {PLAYED}"
+    if shown:
+        yield f"Of {shown} pairs no script at all does it, proved by `labsys never`."
+    yield from in_the_way([each.proof for each in answers if each.found is None])
     yield LOOKED_FOR
 
 
 def ask(world: World, player: Player, pair: Tuple[bytes, Goal], without: Sequence[str], limits: Limits, effort: Effort) -> Answer:
-    """The answer for a pair."""
+    """The answer for a pair that is not proved."""
     flow = Flow(world, player, *pair, without, effort)
     found = flow.find(limits.depth, limits.states)
     return Answer(*pair, found, flow.result)
@@ -344,10 +360,20 @@ def ask(world: World, player: Player, pair: Tuple[bytes, Goal], without: Sequenc
 
 def answers_of(world: World, player: Player, pairs: Sequence[Tuple[bytes, Goal]], without: Sequence[str], limits: Limits,
                effort: Effort) -> List[Answer]:
-    """The answers for pairs, as far as there is time; a single pair is always answered."""
+    """The answers for pairs that are not proved, as far as there is time; a single pair is always answered."""
     if len(pairs) == 1:
         return [ask(world, player, pairs[0], without, limits, effort)]
     return [each for _, each in results(effort, lambda pair: ask(world, player, pair, without, limits, effort), pairs)]
+
+
+def answers_by_proof(pairs: Sequence[Tuple[bytes, Goal]], proofs: Proofs,
+                     search: Callable[[List[Tuple[bytes, Goal]]], List[Answer]]) -> List[Answer]:
+    """The answers for pairs in their order; only those that are not proved are searched."""
+    proof = {pair: proofs.of(*pair) for pair in pairs}
+    left = [pair for pair in pairs if proof[pair].label is None]
+    found = {(each.source, each.goal): dataclasses.replace(each, proof=proof[each.source, each.goal]) for each in search(left)}
+    found.update({pair: Answer(*pair, None, Result(Ending.NEVER), proof[pair]) for pair in pairs if proof[pair].label is not None})
+    return [found[pair] for pair in pairs if pair in found]
 
 
 def status_of(answers: Sequence[Answer], pairs: int) -> Status:
@@ -361,13 +387,13 @@ def status_of(answers: Sequence[Answer], pairs: int) -> Status:
 def answer(arguments: argparse.Namespace, player: Player) -> int:
     """Answers the question."""
     text = read_file(arguments.file)
-    player.check(text)
+    shown = proved(player, text)
     world, limits, effort = read_world(text), limits_of(arguments), effort_of(arguments)
     sources, goals = sources_of(world, arguments.source), goals_of(world, arguments.goal)
     pairs = [(source, goal) for source in sources for goal in goals if source != goal]
     if not pairs:
         raise WrongWords("FROM and TO are the same object")
-    answers = answers_of(world, player, pairs, arguments.without, limits, effort)
+    answers = answers_by_proof(pairs, Proofs(world, shown), lambda left: answers_of(world, player, left, arguments.without, limits, effort))
     if arguments.json:
         write_json(answers[0].as_json() if len(pairs) == 1 else {"pairs": [each.as_json() for each in answers], "asked": len(pairs)})
     elif len(pairs) == 1:

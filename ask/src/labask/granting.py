@@ -3,16 +3,26 @@
 The process of the world from which the caller comes is permitted them from the beginning. A program that the caller or an ancestor
 executes hands them on: for that one call they are inheritable in the file and in the process. What is effective stays as it was, but
 for the call that is tried. So each call before that one is answered as in the run itself, which is compared.
+
+One run serves all callers, and goes on from one denied call to the next as long as none is done that changes something.
 """
 from dataclasses import dataclass, replace
-from typing import Dict, Iterable, Iterator, List, Mapping, Optional, Sequence, Set, Tuple
+from functools import cached_property
+from typing import Callable, Dict, Iterable, Iterator, List, Mapping, Optional, Sequence, Set, Tuple
 
 from labask.capability_texts import Sets, read_sets
 from labask.histories import Execution, History
+from labask.kernel_profile import MAX_INPUT
 from labask.observing import with_observer
 from labask.playing import Outcome, Player, Refused, Reply, Session
-from labask.signatures import CAPABILITIES, arguments_of
+from labask.signatures import CALLS, CAPABILITIES, arguments_of
 from labask.worlds import ScriptLine, World, path_word, quoted
+
+# calls and utilities that change nothing
+LOOKING = ("stat", "fstat", "readdir", "cap_get_file", "cap_get_fd", "cap_get_proc", "mac_get_file", "mac_get_fd", "mac_get_proc", "getids",
+           "getpid", "getppid", "getfcap", "getfmac")
+SPARE_BYTES = MAX_INPUT // 8  # of the input of a trial that goes on
+
 
 @dataclass(frozen=True)
 class Passing:
@@ -47,6 +57,26 @@ class Run:
     programs: Mapping[int, Optional[bytes]]
     in_step: bool = False
 
+    @cached_property
+    def not_done(self) -> List[Reply]:
+        """The replies to the calls that were not done."""
+        return [reply for reply in self.replies if reply.outcome is not Outcome.DONE]
+
+    @cached_property
+    def last_on_descriptor(self) -> int:
+        """The number of the last call on a descriptor that was not done; 0 where there is none."""
+        return max((reply.number for reply in self.not_done if CALLS.get(reply.call, "").startswith("FD")), default=0)
+
+    @cached_property
+    def denied_tags(self) -> Tuple[str, ...]:
+        """The processes with a call that a check denied."""
+        return tuple(dict.fromkeys(reply.tag for reply in self.not_done if reply.outcome is Outcome.DENIED))
+
+    def leads_on(self, line: ScriptLine, number: int) -> bool:
+        """Whether a later call may be done that was not, were this one done: not after one that changes nothing, and after one that
+        only opens an object no call but one on a descriptor."""
+        return not (line.call in LOOKING or only_opens(line) and number >= self.last_on_descriptor)
+
 
 def listed(names: Sequence[str]) -> str:
     """The list of capabilities of a clause."""
@@ -58,16 +88,21 @@ def caps_word(text: str) -> str:
     return quoted(text.encode("latin-1"))
 
 
-def trial_head(world: World, ancestor: str, names: Sequence[str]) -> Tuple[bytes, str]:
-    """The lines of the world up to `script`, in which the ancestor is permitted these capabilities, and the tag of a helper.
+def only_opens(line: ScriptLine) -> bool:
+    """Whether the call of a line opens an object that is there, and does not change it."""
+    return line.call == "open" and not set("ct") & set(line.arguments[1].text)
+
+
+def trial_head(world: World, ancestors: Iterable[str], names: Sequence[str]) -> Tuple[bytes, str]:
+    """The lines of the world up to `script`, in which the ancestors are permitted these capabilities, and the tag of a helper.
 
     The helper is a process with all capabilities and a label of its own, so that it draws no number that the script would draw.
     """
     head, observer = with_observer(world)
     lines = head.split(b"\n")
-    process = world.processes_by_tag[ancestor]
-    line = world.lines[process.line - 1]
-    lines[line.number - 1] = with_last_word(line.text, line.words[5].column, f"{process.caps} {listed(names)}+p")
+    for process in map(world.processes_by_tag.__getitem__, ancestors):
+        line = world.lines[process.line - 1]
+        lines[line.number - 1] = with_last_word(line.text, line.words[5].column, f"{process.caps} {listed(names)}+p")
     number, _, label = observer.partition("@")
     lines.insert(lines.index(b"script", world.script_line or 0), f'proc {label} 0 0 - "all=ep"'.encode("ascii"))
     return b"\n".join(lines), f"{int(number) + 1}@{label}"
@@ -84,16 +119,15 @@ def same(one: Reply, other: Reply) -> bool:
 
 
 class Trial:
-    """A run in which a process is permitted some capabilities besides, up to a call that is then tried."""
+    """A run in which some processes are permitted some capabilities besides, up to a call that is then tried."""
 
-    def __init__(self, run: Run, tag: str, names: Sequence[str]):
-        self.run, self.tag, self.names = run, tag, names
-        self.lineage: Set[str] = set(run.history.ancestors(tag))
-        ancestor = next(each for each in self.lineage if each not in run.history.parents)
-        head, self.helper = trial_head(run.world, ancestor, names)
+    def __init__(self, run: Run, tags: Sequence[str], names: Sequence[str]):
+        self.run, self.tags, self.names = run, tags, names
+        self.lineage: Set[str] = {each for tag in tags for each in run.history.ancestors(tag)}
+        head, self.helper = trial_head(run.world, (each for each in self.lineage if each not in run.history.parents), names)
         self.session = Session(run.player, head)
         self.session.__enter__()
-        self.reached = 0  # lines of the script that were played
+        self.reached = 0  # calls of the script that were played, or left out since they were not done
         self.spent = self.departed = False
 
     def close(self) -> None:
@@ -124,71 +158,78 @@ class Trial:
         yield f"{self.helper} cap_set_file {path} {caps_word(done.file_caps)}", None
         yield f"{done.process} cap_set_proc {caps_word(f'{done.caps} {names}+p')}", None
 
-    def advance(self, line: ScriptLine, call: int) -> bool:
+    def advance(self, call: int) -> bool:
         """Plays what was done before a call; says whether it is answered as in the run itself. What was not done left no change."""
-        waiting: List[Tuple[str, Optional[Reply]]] = []
-        script, replies = self.run.world.script, self.run.replies
-        while self.reached < len(script) and script[self.reached].line.number <= line.line.number:
-            each = script[self.reached]
-            numbers = range(each.first_call, min(call, each.first_call + each.calls))
-            for number in numbers:
-                waiting += self.lines_of(each, number) if replies[number - 1].outcome is Outcome.DONE else ()
-            if each is line:
-                break
-            self.reached += 1
+        lines, done = self.run.world.lines_by_call, self.run.replies[self.reached:call - 1]
+        waiting = [each for reply in done if reply.outcome is Outcome.DONE for each in self.lines_of(lines[reply.number], reply.number)]
+        self.reached = call - 1
         given = self.session.calls([text for text, _ in waiting])
         return all(one.outcome is Outcome.DONE if due is None else same(one, due) for one, (_, due) in zip(given, waiting))
 
-    def raised(self, sets: Sets, names: Iterable[str]) -> bool:
-        """Makes these capabilities effective besides those of the sets; says whether that was done."""
+    def raised(self, tag: str, sets: Sets, names: Iterable[str]) -> bool:
+        """Makes these capabilities of a process effective besides those of the sets; says whether that was done."""
         asked = Sets(sets.effective | frozenset(names), sets.inheritable, sets.permitted)
-        return self.session.call(f"{self.tag} cap_set_proc {caps_word(asked.written)}").outcome is Outcome.DONE
+        return self.session.call(f"{tag} cap_set_proc {caps_word(asked.written)}").outcome is Outcome.DONE
 
-    def attempt(self, text: str) -> Reply:
-        """The reply to the call; a call that is not denied may change the run, which is spent then."""
-        reply = self.session.call(text)
-        self.spent = self.spent or reply.outcome is not Outcome.DENIED
-        return reply
+    def passing(self, line: ScriptLine, denied: Reply) -> Optional[Passing]:
+        """Capabilities with which the call passes the check, and then as many of the checks after it as any capability does.
 
-    def passing(self, text: str, denied: Reply) -> Optional[Passing]:
-        """Capabilities with which the call passes the check, and then as many of the checks after it as any capability does."""
-        asked = self.session.call(f"{self.tag} cap_get_proc")
+        The run is spent where the call was done and a later one may depend on it.
+        """
+        asked = self.session.call(f"{line.tag} cap_get_proc")
         if asked.outcome is not Outcome.DONE:
             return None
         sets = read_sets(asked.words[0].text)
-        last = self.attempt(text)
+        found = self.best(line.single(denied.number), denied, sets, self.names)
+        if found is not None and found.reply.outcome is Outcome.DONE:
+            self.spent = self.run.leads_on(line, denied.number)
+            if not self.spent and line.call == "open":
+                self.session.call(f"{line.tag} close {found.reply.words[0].text}")
+        if not self.spent:
+            self.raised(line.tag, sets, ())
+        return found
+
+    def child(self, tag: str) -> Optional[str]:
+        """The tag of a new child of a process; None where there can't be one more."""
+        reply = self.session.call(f"{tag} fork")
+        return reply.words[0].text if reply.outcome is Outcome.DONE else None
+
+    def by_child(self, child: str, line: ScriptLine, denied: Reply, names: Sequence[str]) -> Optional[Passing]:
+        """As `passing`, where a child of the caller that is permitted only these capabilities besides makes the call."""
+        sets = read_sets(f"{self.run.history.caps_before(line.tag, denied.number)} {listed(names)}+p")
+        self.session.call(f"{child} cap_set_proc {caps_word(sets.written)}")
+        return self.best(f"{child} {line.single(denied.number).partition(' ')[2]}", denied, sets, names)
+
+    def best(self, text: str, denied: Reply, sets: Sets, names: Sequence[str]) -> Optional[Passing]:
+        """As `passing`, by some capabilities, for a caller with these sets, who does not get them back."""
+        last = self.session.call(text)
         held: Tuple[str, ...] = ()
-        best = None if same(last, denied) else Passing((), last)
-        if best is not None and best.complete:
-            return best
-        while True:
-            step = self.step(sets, held, text, last)
+        found = None if same(last, denied) else Passing((), last)
+        while found is None or not found.complete:
+            step = self.step(text, sets, [name for name in names if name not in held], held, last)
             if step is None:
                 break
-            best, held, last = step, step.capabilities, step.reply
-            if step.complete:
-                return step
-        if not self.spent:
-            self.raised(sets, ())
-        return best
+            found, held, last = step, step.capabilities, step.reply
+        return found
 
-    def step(self, sets: Sets, held: Tuple[str, ...], text: str, last: Reply) -> Optional[Passing]:
+    def step(self, text: str, sets: Sets, names: Iterable[str], held: Tuple[str, ...], last: Reply) -> Optional[Passing]:
         """One more capability with which the call is answered otherwise than last; None where there is none."""
-        for name in self.names:
-            if name in sets.effective or name in held or name not in sets.permitted or not self.raised(sets, (*held, name)):
-                continue
-            reply = self.attempt(text)
-            if not same(reply, last):
-                return Passing((*held, name), reply)
+        for name in names:
+            if name in sets.permitted - sets.effective and self.raised(text.partition(" ")[0], sets, (*held, name)):
+                reply = self.session.call(text)
+                if not same(reply, last):
+                    return Passing((*held, name), reply)
         return None
 
+
 class Trials:
-    """The trials of a run: for each process one at a time, made anew where the last one is spent."""
+    """The trials of a run: one for all callers, or one for each where that departs from the run. They are made anew where spent."""
     MOST = 6
 
     def __init__(self, run: Run):
         self.run = run
-        self.open: Dict[str, Trial] = {}
+        self.together = len(run.denied_tags) > 1
+        self.open: Dict[Optional[str], Trial] = {}
 
     def close(self) -> None:
         """Ends all trials."""
@@ -198,21 +239,25 @@ class Trials:
 
     def trial(self, line: ScriptLine) -> Trial:
         """A trial for the caller of a line that has not gone past it."""
-        found = self.open.pop(line.tag, None)
-        if found is not None and found.spent:
+        key = None if self.together else line.tag
+        found = self.open.pop(key, None)
+        if found is not None and (found.spent or not found.session.has_room(SPARE_BYTES)):
             found.close()
             found = None
         if found is None:
-            found = Trial(self.run, line.tag, CAPABILITIES)
+            found = Trial(self.run, self.run.denied_tags if self.together else (line.tag,), CAPABILITIES)
         while len(self.open) >= self.MOST:
             self.open.pop(next(iter(self.open))).close()
-        self.open[line.tag] = found
+        self.open[key] = found
         return found
 
     def passing(self, line: ScriptLine, denied: Reply) -> Optional[Passing]:
         """The capabilities that would have let a denied call pass, found by trying; None where none was found."""
         trial = self.trial(line)
         found = self.tried(trial, line, denied)
+        if trial.departed and self.together:
+            self.together = False
+            return self.passing(line, denied)
         if trial.departed:
             alone = (self.alone(line, denied, (name,)) for name in CAPABILITIES)
             found = next((each for each in alone if each is not None), None)
@@ -221,16 +266,15 @@ class Trials:
         return None if found is None or not found.capabilities else found
 
     def passed(self, line: ScriptLine, found: Passing) -> Optional[Trial]:
-        """The trial in which a call was done just now; None where it was not done, or the run departed before it."""
-        trial = self.open.get(line.tag)
-        return None if trial is None or trial.departed or found.reply.outcome is not Outcome.DONE else trial
+        """The trial in which a call was done just now; None where it was not done, nothing may come from it, or the run departed."""
+        trial = self.open.get(None if self.together else line.tag)
+        return trial if trial is not None and trial.spent and not trial.departed and found.reply.outcome is Outcome.DONE else None
 
     def tried(self, trial: Trial, line: ScriptLine, denied: Reply) -> Optional[Passing]:
         """What a trial finds that is played up to the call."""
-        trial.spent = line.calls > 1  # the line is played in part
         try:
-            if trial.advance(line, denied.number):
-                return trial.passing(line.single(denied.number), denied)
+            if trial.advance(denied.number):
+                return trial.passing(line, denied)
         except Refused:  # a line became too long by what it permits
             pass
         trial.departed = trial.spent = True
@@ -238,25 +282,37 @@ class Trials:
 
     def alone(self, line: ScriptLine, denied: Reply, names: Sequence[str]) -> Optional[Passing]:
         """What a trial of its own finds with some capabilities."""
-        trial = Trial(self.run, line.tag, names)
+        trial = Trial(self.run, (line.tag,), names)
         try:
             return self.tried(trial, line, denied)
         finally:
             trial.close()
 
     def reduced(self, line: ScriptLine, denied: Reply, found: Passing) -> Passing:
-        """Of a call that asks for capabilities: the same with as few permitted as it takes."""
-        asked = read_sets(line.arguments[arguments_of(line.call, len(line.arguments)).index("CAPS")].text)
-        named = asked.effective | asked.inheritable | asked.permitted | frozenset(found.capabilities)
-        few = [name for name in CAPABILITIES if name in named]
-        permitted = few if self.enough(line, denied, found, few) else list(CAPABILITIES)
-        for name in list(permitted):
-            fewer = [each for each in permitted if each != name]
-            if name not in found.capabilities and self.enough(line, denied, found, fewer):
-                permitted = fewer
-        return replace(found, permitted=tuple(name for name in permitted if name not in found.capabilities))
+        """Of a call that asks for capabilities: the same with as few permitted as it takes. Each try is by a child of the caller."""
+        trial = Trial(self.run, (line.tag,), CAPABILITIES)
 
-    def enough(self, line: ScriptLine, denied: Reply, found: Passing, names: Sequence[str]) -> bool:
-        """Whether a call passes in the same way where only these capabilities are permitted besides."""
-        again = self.alone(line, denied, names) if names else None
-        return again is not None and again.capabilities == found.capabilities and same(again.reply, found.reply)
+        def enough(names: Sequence[str]) -> bool:
+            """Whether the call passes in the same way where only these capabilities are permitted besides."""
+            child = trial.child(line.tag) if names else None
+            again = trial.by_child(child, line, denied, names) if child else self.alone(line, denied, names) if names else None
+            return again is not None and again.capabilities == found.capabilities and same(again.reply, found.reply)
+
+        try:
+            trial.advance(denied.number)
+            return fewest_permitted(line, found, enough)
+        finally:
+            trial.close()
+
+
+def fewest_permitted(line: ScriptLine, found: Passing, enough: Callable[[Sequence[str]], bool]) -> Passing:
+    """What a call passes with, with as few capabilities permitted besides as are enough: of those that it names, or else of all."""
+    asked = read_sets(line.arguments[arguments_of(line.call, len(line.arguments)).index("CAPS")].text)
+    named = asked.effective | asked.inheritable | asked.permitted | frozenset(found.capabilities)
+    few = [name for name in CAPABILITIES if name in named]
+    permitted = few if enough(few) else list(CAPABILITIES)
+    for name in list(permitted):
+        fewer = [each for each in permitted if each != name]
+        if name not in found.capabilities and enough(fewer):
+            permitted = fewer
+    return replace(found, permitted=tuple(name for name in permitted if name not in found.capabilities))

@@ -60,6 +60,7 @@ class History:
             process = self.parents[process]
             yield process
 
-    def relatives(self, process: str) -> Iterator[str]:
-        """The processes that come from the same process of the world, this one too."""
-        return (each for each, origin in self._origins.items() if origin == self._origins[process])
+    def relatives(self, *processes: str) -> Iterator[str]:
+        """The processes that come from the same processes of the world as these, and these themselves."""
+        origins = {self._origins[each] for each in processes}
+        return (each for each, origin in self._origins.items() if origin in origins)

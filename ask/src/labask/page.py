@@ -7,6 +7,7 @@ import sys
 from typing import Iterator, List, Optional, Sequence
 
 from labask.answers import Status, WrongWords, write_json
+from labask.effort import Effort, add_jobs_argument, default_effort
 from labask.page_parts import one_run, two_runs
 from labask.page_parts.run import Run, play_run
 from labask.page_parts.side import MOST_VIEWS, Side, json_of, labels_of, make_side
@@ -23,6 +24,7 @@ def add_arguments(parser: argparse.ArgumentParser) -> None:
     parser.add_argument("--label", metavar="LABEL", action="append", default=[], dest="labels",
                         help="a label to see the run as; may be repeated. By default the labels that the world names, up to "
                         f"{MOST_VIEWS}")
+    add_jobs_argument(parser)
 
 
 def write_page(page: str, output: Optional[str]) -> None:
@@ -65,11 +67,11 @@ def runs_of(player: Player, files: Sequence[str], arguments: argparse.Namespace)
         yield run_of(player, file)
 
 
-def sides_of(player: Player, files: Sequence[str], arguments: argparse.Namespace) -> List[Side]:
+def sides_of(player: Player, files: Sequence[str], arguments: argparse.Namespace, effort: Effort) -> List[Side]:
     """The runs of the files, each with what the page says of it."""
     runs, labels = list(runs_of(player, files, arguments)), arguments.labels
     named = [label for run in runs for label in named_labels(run)]
-    return [make_side(player, name, run, labels_of(run, named, labels)) for name, run in zip(names_of(files), runs)]
+    return [make_side(player, name, run, labels_of(run, named, labels), effort) for name, run in zip(names_of(files), runs)]
 
 
 def answer(arguments: argparse.Namespace, player: Player) -> int:
@@ -79,10 +81,11 @@ def answer(arguments: argparse.Namespace, player: Player) -> int:
         raise WrongWords("standard input is read once; name a file for the other run")
     for file in files if arguments.output is not None else ():
         refuse_same_file(file, arguments.output)
-    one, *others = sides_of(player, files, arguments)
+    effort = default_effort(arguments.jobs)
+    one, *others = sides_of(player, files, arguments, effort)
     if arguments.json:
         write_json(two_runs.json_of_two((one, others[0])) if others else json_of(one))
     else:
-        page = two_runs.page_of(player, (one, others[0])) if others else one_run.page_of(player, one)
+        page = two_runs.page_of(player, (one, others[0]), effort) if others else one_run.page_of(player, one, effort)
         write_page("".join(page), arguments.output)
     return Status.DONE

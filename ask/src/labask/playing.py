@@ -24,7 +24,7 @@ STATUS_ACCEPTED = 0
 STATUS_REFUSED = 2
 STATUS_TOO_LONG = 7
 ANSWERED = (STATUS_ACCEPTED, STATUS_REFUSED, STATUS_TOO_LONG)
-VERSION = re.compile(rb"labsys [0-9]+\.[0-9]+\.[0-9]+[^ ]*$")
+VERSION = re.compile(rb"labsys [0-9]+\.[0-9]+\.[0-9]+[^ ]*( \([^()]*\))?$")
 COUNTS = re.compile(rb"ok ([0-9]+) ([0-9]+) ([0-9]+)\n")
 RECORD = re.compile(rb"^[0-9]+ ", re.M)  # begins the line of a record of a trail
 LAST_LINE = re.compile(rb"^done [0-9]+\n\Z", re.M)
@@ -320,6 +320,8 @@ class Session:
 
     def _reply(self) -> Reply:
         line = self._out.readline()
+        while line.startswith(b"end "):  # of processes, before a refusal
+            line = self._out.readline()
         tag, _, rest = line.partition(b" ")
         if b"@" not in tag or not rest:
             last = Played(STATUS_REFUSED, line, b"", b"")

@@ -2,7 +2,7 @@
 
 `/wards/*` names what is in a directory and `/wards/**` all that is below it. `*` and `?` stand for bytes of one name, and `/**/` for
 any names between two, or none. `label:LABEL` names what has this label. A path that is there names that object alone, also where it
-has such signs.
+has such signs. A process has a name where the line before its own is a comment `# name NAME`.
 """
 from typing import List, Optional, TypeVar
 
@@ -44,5 +44,7 @@ def processes_named(world: World, text: str) -> List[WorldProcess]:
     label = label_named(world, text)
     if label is not None:
         return found([each for each in world.processes if each.label == label], f"no process of the world has the label {label}")
+    if text in world.processes_by_name:
+        return [world.processes_by_name[text]]
     tag = world.policy.canonical_tag(text)
     return found([world.processes_by_tag[tag]] if tag in world.processes_by_tag else [], f"the world has no process {tag}")

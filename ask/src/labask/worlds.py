@@ -17,6 +17,7 @@ from labask.kernel_profile import MAX_LINE as MAX_LINE
 from labask.kernel_profile import UTILITIES as UTILITIES
 
 TAG_NUMBER = re.compile(r"[0-9]{1,10}")
+NAME_COMMENT = re.compile(rb" *# *name +([A-Za-z][A-Za-z0-9_-]*) *")
 
 
 class WordFault(enum.Enum):
@@ -235,6 +236,17 @@ class World:
     def processes_by_tag(self) -> Dict[str, WorldProcess]:
         """The processes by their tags n@label."""
         return {each.tag: each for each in self.processes}
+
+    @cached_property
+    def process_names(self) -> Tuple[Tuple[str, WorldProcess], ...]:
+        """The names that comments `# name NAME` right before their lines give to processes, in order."""
+        comments = ((NAME_COMMENT.fullmatch(self.lines.pieces[each.line - 2]), each) for each in self.processes)
+        return tuple((comment[1].decode("ascii"), each) for comment, each in comments if comment is not None)
+
+    @cached_property
+    def processes_by_name(self) -> Dict[str, WorldProcess]:
+        """The processes by their names; the first of a name counts."""
+        return dict(reversed(self.process_names))
 
     @cached_property
     def lines_by_call(self) -> Dict[int, ScriptLine]:

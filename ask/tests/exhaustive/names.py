@@ -2,9 +2,10 @@
 
 No rule of the kernel is here: whether a call is done, `labsys` says. Only what a done call does to names is followed.
 """
+import weakref
 from dataclasses import dataclass, replace
 from functools import cached_property
-from typing import Dict, FrozenSet, Iterator, List, Mapping, NamedTuple, Optional, Sequence, Tuple
+from typing import Dict, FrozenSet, Iterator, List, Mapping, MutableMapping, NamedTuple, Optional, Sequence, Tuple
 
 from exhaustive.random_worlds import RandomWorld
 
@@ -29,14 +30,22 @@ class Walk(NamedTuple):
 
 
 class Tree:
-    """The entries of all directories, by the numbers of objects; `kinds` has the kind of each object."""
+    """The entries of all directories, by the numbers of objects; `kinds` has the kind of each object.
 
-    def __init__(self, kinds: Tuple[str, ...], entries: Entries, family: Optional[Dict[object, "Tree"]] = None):
+    `family` has the trees of a search that are in use; the other maps keep what was found out, until `forget` is called.
+    """
+
+    def __init__(self, kinds: Tuple[str, ...], entries: Entries, family: Optional[MutableMapping[object, "Tree"]] = None):
         self.kinds, self.entries = kinds, entries
+        self.family: MutableMapping[object, "Tree"] = weakref.WeakValueDictionary() if family is None else family
         self.walks: Dict[Tuple[int, str], Walk] = {}
-        self.family: Dict[object, "Tree"] = {} if family is None else family
         self.next: Dict[object, "Tree"] = {}
         self.cells: Dict[object, FrozenSet[Tuple[object, ...]]] = {}
+
+    def forget(self) -> None:
+        """Forgets what is only kept so that it is not found out twice."""
+        for kept in (self.walks, self.next, self.cells):
+            kept.clear()
 
     def walk(self, start: int, path: str) -> Walk:
         """The walk of a path: from the root where it is absolute, else from a directory."""

@@ -1,6 +1,13 @@
-"""Searches the scripts of a world for flows, level by level: the scripts of one call, of two, and of three with what ends a flow."""
+"""Searches the scripts of a world for flows, level by level: the scripts of one call, of two, and of three with what ends a flow.
+
+There are many scripts of two calls. They are worked on in pieces, behind each of which all that can be found out anew is forgotten.
+"""
+import functools
+import hashlib
+import itertools
+import operator
 from dataclasses import dataclass, field, replace
-from typing import Callable, Dict, FrozenSet, Iterator, List, NamedTuple, Optional, Sequence, Set, Tuple
+from typing import Callable, Dict, FrozenSet, Iterable, Iterator, List, NamedTuple, Optional, Sequence, Set, Tuple, TypeVar
 
 from exhaustive.calls import OBSERVER, Arguments, Call, after, calls_of, entry_changes, fits, paths_from, walks_of
 from exhaustive.copies import ROOTS, Copies, Job
@@ -9,6 +16,8 @@ from exhaustive.names import ROOT, State, Tree, names_of
 from exhaustive.random_worlds import RandomWorld
 
 DEPTH = 4
+PIECE = 1_000  # scripts that are worked on at once
+KEY_BYTES = 16
 ON_ITSELF = ("setuid", "setgid", "exec", "cap_set_proc", "mac_set_proc", "chdir")
 ON_DESCRIPTOR = ("mac_set_fd", "cap_set_fd", "write")
 MOVING = ("rename", "link")
@@ -20,6 +29,13 @@ Fact = Tuple[object, ...]
 Facts = Dict[Fact, object]
 Goal = Tuple[str, int]  # "process" or "object", and its number
 Pair = Tuple[int, int]
+Item = TypeVar("Item")
+
+
+def pieces(items: Iterable[Item]) -> Iterator[List[Item]]:
+    """Items in pieces that are worked on at once."""
+    left = iter(items)
+    return iter(lambda: list(itertools.islice(left, PIECE)), [])
 
 
 def done(reply: bytes) -> bool:
@@ -44,7 +60,7 @@ class Node:
     """A script whose calls are done, and what is known of the state after it.
 
     `table` has the answers to calls, `unasked` the calls whose answer may be another than before, `changes` what a done call changes,
-    `before` the state before the last call, and `footprints` what each call of the script writes and reads, the last one first.
+    `parent` the node before the last call, and `footprints` what each call of the script writes and reads, the last one first.
     """
     script: Script
     state: State
@@ -52,22 +68,22 @@ class Node:
     table: Dict[Call, Answer] = field(default_factory=dict)
     unasked: List[Call] = field(default_factory=list)
     changes: Dict[Call, Facts] = field(default_factory=dict)
-    before: Optional[State] = None
+    parent: Optional["Node"] = None
     footprints: Tuple[Tuple[Cells, Cells], ...] = ()
-
-    @property
-    def key(self) -> FrozenSet[object]:
-        """The same for scripts that lead to the same state."""
-        return frozenset(self.facts.items())
 
     def child(self, call: Call) -> "Node":
         """The node of the script with one call more."""
         footprint = (writes(call, self.state), reads(call, self.state))
-        return Node((*self.script, call), after(call, self.state), before=self.state, footprints=(footprint, *self.footprints))
+        return Node((*self.script, call), after(call, self.state), parent=self, footprints=(footprint, *self.footprints))
 
     def done_calls(self) -> Iterator[Tuple[Call, Answer]]:
         """The calls that are done there, with their answers."""
         return ((call, answer) for call, answer in self.table.items() if done(answer.reply))
+
+    def shrink(self) -> None:
+        """Forgets what `Search.fill` sets again: all but the answers to calls that were asked here."""
+        self.table = {call: answer for call, answer in self.table.items() if answer.node is self}
+        self.unasked = []
 
 
 class Search:
@@ -80,28 +96,34 @@ class Search:
         self.files = [number for number, each in enumerate(world.objects) if each.kind == "file"]
         self.goals = [number for number, each in enumerate(world.objects) if each.kind != "dir"]
         self.found: Dict[Tuple[int, Goal], Script] = {}
-        self.seen: Set[FrozenSet[object]] = set()
+        self.seen: Set[int] = set()
         self.lists: Dict[object, Dict[Call, None]] = {}
         self.moves_memo: Dict[object, Dict[Call, None]] = {}
-        self.counts: List[int] = []
 
     def run(self) -> None:
         """Searches: the flows that are known at any time have no longer scripts than those that are looked for then."""
         root = Node((), self.copies.first)
         self.tell([root])
-        self.seen.add(root.key)
+        self.unseen(root.facts)
         root.unasked = [call for call in self.calls(root.state) if call.name != "fork"]
         self.ask_unasked([root], lambda node, call: True)
         first = self.next_level([root], 1)
+        moved = self.pending_moves()
+        for node in first:
+            self.fill(node, moved)
         self.ask_unasked(first, lambda node, call: True)
         second = self.next_level(first, 2)
         read, moved = self.pending_reads(), self.pending_moves()
-        self.ask_unasked(second, lambda node, call: self.ends(node, call, read, moved))
+        for piece in self.filled(second, moved):
+            self.ask_unasked(piece, lambda node, call: self.ends(node, call, read, moved))
         self.copy_flows(root)
         still = self.pending_moves()
-        needs = {node: self.needed(node, still) for node in second}
-        self.ask_unasked(second, lambda node, call: self.helps(node, call, needs[node], still))
-        self.last_moves(second, still)
+        for piece in self.filled(second, moved):
+            needs = {node: self.needed(node, still) for node in piece}
+            self.ask_unasked(piece, lambda node, call: self.helps(node, call, needs[node], still))
+            self.last_moves(piece, still)
+            for node in piece:
+                node.table.clear()
 
     # ---- what is tried
 
@@ -147,46 +169,67 @@ class Search:
             node.state = replace(node.state, caps=tuple(caps[actor] for actor in range(len(caps))))
             node.facts = dict(facts_of(node.state, job.replies))
 
-    def foretell(self, node: Node, child: Node) -> bool:
-        """Sets the facts of a child where its last call does there what it did before; gives whether it does."""
-        call = child.script[-1]
-        answer = node.table.get(call)
-        if answer is None or answer.node is node or call not in answer.node.changes:
+    def foretell(self, node: Node) -> bool:
+        """Sets the facts of a node where its last call does there what it did before; gives whether it does."""
+        assert node.parent is not None
+        answer = node.parent.table.get(node.script[-1])
+        if answer is None or answer.node is node.parent or node.script[-1] not in answer.node.changes:
             return False
-        child.facts = changed_facts(node.facts, answer.node.changes[call])
-        child.state = replace(child.state, caps=tuple(str(child.facts["caps", actor]) for actor in range(len(child.state.labels))))
+        node.facts = changed_facts(node.parent.facts, answer.node.changes[node.script[-1]])
+        node.state = replace(node.state, caps=tuple(str(node.facts["caps", actor]) for actor in range(len(node.state.labels))))
         return True
+
+    def note_changes(self, node: Node) -> None:
+        """Keeps what the last call of a node has changed, so that it is foretold elsewhere."""
+        assert node.parent is not None
+        if node.script[-1] in node.parent.table:
+            node.parent.changes[node.script[-1]] = difference(node.parent.facts, node.facts)
 
     # ---- levels
 
     def next_level(self, level: Sequence[Node], depth: int) -> List[Node]:
-        """The nodes of the scripts with one call more that lead to states which were not met before."""
-        children = [(node, node.child(call)) for node in level for call in self.extensions(node, depth)]
-        fresh = [(node, child) for node, child in children if not self.foretell(node, child)]
-        self.tell([child for _, child in fresh])
-        for node, child in fresh:
-            if child.script[-1] in node.table:
-                node.changes[child.script[-1]] = difference(node.facts, child.facts)
-        moved = self.pending_moves()
-        kept = [(node, child) for node, child in children if self.unseen(child.key)]
-        for node, child in kept:
-            self.inherit(node, child, moved)
-        self.counts.append(len(kept))
-        return [child for _, child in kept]
+        """The nodes of the scripts with one call more that lead to states which were not met before. Their tables are not filled."""
+        kept: List[Node] = []
+        for children in pieces(node.child(call) for node in level for call in self.extensions(node, depth)):
+            fresh = [child for child in children if not self.foretell(child)]
+            self.tell(fresh)
+            for child in fresh:
+                self.note_changes(child)
+            kept += [child for child in children if self.unseen(child.facts)]
+        return kept
 
-    def unseen(self, key: FrozenSet[object]) -> bool:
+    def unseen(self, facts: Facts) -> bool:
         """Whether a state was not met before; it is from then on."""
         before = len(self.seen)
-        self.seen.add(key)
+        self.seen.add(key_of(facts))
         return len(self.seen) > before
 
-    def inherit(self, node: Node, child: Node, moved: FrozenSet[Pair]) -> None:
-        """Gives a child the answers of its parent that do not depend on what its last call has changed."""
-        changed = writes(child.script[-1], node.state)
-        tried = {**self.calls(child.state), **self.moves(child.state, moved)}
+    def filled(self, level: Sequence[Node], moved: FrozenSet[Pair]) -> Iterator[List[Node]]:
+        """The nodes of a level in pieces, each with its table; behind a piece all that can be found out anew is forgotten."""
+        for piece in pieces(level):
+            for node in piece:
+                self.fill(node, moved)
+            yield piece
+            for node in piece:
+                node.shrink()
+            self.forget()
+
+    def forget(self) -> None:
+        """Forgets what is only kept so that it is not found out twice."""
+        self.lists.clear()
+        self.moves_memo.clear()
+        for tree in list(self.copies.first.tree.family.values()):
+            tree.forget()
+
+    def fill(self, node: Node, moved: FrozenSet[Pair]) -> None:
+        """Adds to the table of a node the answers of its parent that do not depend on what its last call has changed."""
+        assert node.parent is not None
+        changed, table = writes(node.script[-1], node.parent.state), node.parent.table
+        tried = {**self.calls(node.state), **self.moves(node.state, moved)}
         if self.pruned:
-            child.table = {call: answer for call, answer in node.table.items() if call in tried and answer.depends.isdisjoint(changed)}
-        child.unasked = [call for call in tried if call not in child.table and call.name != "fork"]
+            inherited = {call: answer for call, answer in table.items() if call in tried and answer.depends.isdisjoint(changed)}
+            node.table = {**inherited, **node.table}
+        node.unasked = [call for call in tried if call not in node.table and call.name != "fork"]
 
     def ask_unasked(self, nodes: Sequence[Node], wanted: Callable[[Node, Call], bool]) -> None:
         """Asks the calls at nodes that are wanted, and notes the flows that they end."""
@@ -229,8 +272,9 @@ class Search:
     def last_moves(self, level: Sequence[Node], moved: FrozenSet[Pair]) -> None:
         """Looks for the moves after three other calls."""
         asked = [each for node in level for each in self.after_third(node, moved)]
-        self.counts.append(len(asked))
         self.ask(asked)
+        for node, _ in asked:
+            node.table.clear()  # its answers name the node itself, so that neither would be freed at once
 
     def after_third(self, node: Node, moved: FrozenSet[Pair]) -> Iterator[Tuple[Node, List[Call]]]:
         """The nodes with one call more at which moves are asked, and these moves."""
@@ -255,7 +299,7 @@ class Search:
         """Whether the state after a third call was not met before, as far as it can be foretold."""
         if answer.node is node or call not in answer.node.changes:
             return True
-        return self.unseen(frozenset(changed_facts(node.facts, answer.node.changes[call]).items()))
+        return self.unseen(changed_facts(node.facts, answer.node.changes[call]))
 
     # ---- flows
 
@@ -353,12 +397,12 @@ def moves_to(source: int, target: str, behind: str, directory: int, tree: Tree,
 
 def next_touches(node: Node) -> Optional[Cells]:
     """What the call behind the last one of a script has to change, or None where it may change anything."""
-    if not node.script or node.before is None:
+    if node.parent is None:
         return None
-    last = node.script[-1]
+    last, before = node.script[-1], node.parent.state
     if last.name == "chdir":
-        return reads(last, node.before)
-    return reads(Call(last.actor, "mac_set_file", last.paths, ""), node.before) if only_opens(last) else None
+        return reads(last, before)
+    return reads(Call(last.actor, "mac_set_file", last.paths, ""), before) if only_opens(last) else None
 
 
 def is_in_vain(call: Call, changed: Cells, needed: Cells, touched: Optional[Cells]) -> bool:
@@ -411,3 +455,14 @@ def difference(before: Facts, then: Facts) -> Facts:
 def changed_facts(before: Facts, changes: Facts) -> Facts:
     """The facts after changes."""
     return {name: value for name, value in {**before, **changes}.items() if value is not None}
+
+
+@functools.lru_cache(maxsize=None)
+def digest(name: Fact, value: object) -> int:
+    """A number for a fact, by its text."""
+    return int.from_bytes(hashlib.blake2b(repr((name, value)).encode(), digest_size=KEY_BYTES).digest(), "big")
+
+
+def key_of(facts: Facts) -> int:
+    """A number for a state: the same for the same facts, and for other ones as good as never."""
+    return functools.reduce(operator.xor, itertools.starmap(digest, facts.items()), 0)

@@ -1,6 +1,7 @@
 """The page of one run."""
 from typing import Iterator, List
 
+from labask.effort import Effort
 from labask.playing import Outcome, Player
 
 from .document import Sections, document, lane_width, tag_width
@@ -34,7 +35,7 @@ def calls_section(side: Side, table: Table) -> Iterator[str]:
     yield from tables_of(table)
 
 
-def page_of(player: Player, side: Side) -> Iterator[str]:
+def page_of(player: Player, side: Side, effort: Effort) -> Iterator[str]:
     """The page of a run, in pieces."""
     run = side.run
     table = make_table(run, make_lanes(run, side.order), side.views)
@@ -43,7 +44,7 @@ def page_of(player: Player, side: Side) -> Iterator[str]:
         "labels": ("Labels", labels_section(run, side.views, side.left)),
         "processes": ("Processes", processes_section(run, side.order)),
         "objects": ("Objects", objects_section(run.world)),
-        "rights": ("Who may", rights_section(player, run.world)),
+        "rights": ("Who may", rights_section(player, run.world, effort)),
         "words": ("Checks and refusals", words_section(run)),
     }
     data = {"sides": [data_of(side)], "marked": marked_calls(run), "together": TOGETHER, "columns": len(COLUMNS)}

@@ -1,6 +1,7 @@
 """The table of `who`: the rights of the processes to the objects at the start, each asked by a call that was played."""
 from typing import Dict, Iterator, List, Tuple
 
+from labask.effort import Effort
 from labask.playing import Player
 from labask.who import RIGHTS, Access, Answer, ask
 from labask.worlds import World, path_word
@@ -36,7 +37,7 @@ def right_rows(world: World, answers: Iterator[Answer]) -> Iterator[str]:
         yield f'<tr data-label="{text(each.label)}"><th scope="row">{code(path_word(each.path))}{headed(tags, lists)}\n'
 
 
-def rights_section(player: Player, world: World) -> Iterator[str]:
+def rights_section(player: Player, world: World, effort: Effort) -> Iterator[str]:
     """The rights at the start of the world."""
     count = count_rights(world)
     if count > MOST_RIGHTS:
@@ -51,5 +52,5 @@ def rights_section(player: Player, world: World) -> Iterator[str]:
            "it.</p>\n")
     heads = head_row(["Object", *(process.tag for process in world.processes)])
     yield f'<div class="wide"><table class="plain rights">{heads}<tbody>\n'
-    yield from right_rows(world, ask(world, world.processes, world.objects, player))
+    yield from right_rows(world, ask(world, world.processes, world.objects, player, effort))
     yield "</tbody></table></div>\n"

@@ -3,6 +3,7 @@ from dataclasses import dataclass
 from typing import Any, Dict, Iterator, List, Mapping, Sequence
 
 from labask.answers import WrongWords
+from labask.effort import Effort
 from labask.label_texts import form_fault, label_faults
 from labask.playing import Player
 from labask.reasons import error_in_words
@@ -46,14 +47,14 @@ def labels_of(run: Run, others: Sequence[str], given: Sequence[str]) -> List[str
     return list(dict.fromkeys([*named_labels(run), *shared]))
 
 
-def make_side(player: Player, name: str, run: Run, labels: Sequence[str]) -> Side:
+def make_side(player: Player, name: str, run: Run, labels: Sequence[str], effort: Effort) -> Side:
     """Plays and asks what a page says of a run, as the first of some labels see it."""
     named = named_labels(run)
     known = [label for label in labels if not label_faults(label, run.world.policy)]
     ranks = Ranks(player, run, list(dict.fromkeys([*named, *known])))
     asked = labels[:MOST_VIEWS]
-    views = views_of(player, run, ranks, asked)
-    return Side(name, run, ranks.order, views, len(set(named) - set(asked)), make_whys(player, run))
+    views = views_of(player, run, ranks, asked, effort)
+    return Side(name, run, ranks.order, views, len(set(named) - set(asked)), make_whys(player, run, effort))
 
 
 def data_of(side: Side) -> Dict[str, Any]:

@@ -1,6 +1,7 @@
 """The page of two runs side by side."""
 from typing import Any, Dict, Iterator, List, Optional, Sequence, Tuple
 
+from labask.effort import Effort
 from labask.playing import Player
 from labask.who import Answer, ask
 from labask.worlds import Line, path_word
@@ -113,10 +114,10 @@ def both_processes(sides: Sides) -> Iterator[str]:
         yield "</div>\n"
 
 
-def rights_of(player: Player, side: Side) -> Dict[Tuple[bytes, str, str], Answer]:
+def rights_of(player: Player, side: Side, effort: Effort) -> Dict[Tuple[bytes, str, str], Answer]:
     """The answers of `who` to what each process may do to each object, by path, process and right."""
     world = side.run.world
-    answers = ask(world, world.processes, world.objects, player)
+    answers = ask(world, world.processes, world.objects, player, effort)
     return {(each.path, each.process, each.right.value): each for each in answers}
 
 
@@ -125,12 +126,12 @@ def answer_text(answer: Answer) -> str:
     return text(answer.text.replace(",", ", "))
 
 
-def rights_section(player: Player, sides: Sides) -> Iterator[str]:
+def rights_section(player: Player, sides: Sides, effort: Effort) -> Iterator[str]:
     """The rights at the start that differ, of processes and objects that both worlds have."""
     if any(count_rights(side.run.world) > MOST_RIGHTS for side in sides):
         yield "<p>There are too many rights of processes to objects for a page. <code>labask who</code> asks for some of them.</p>\n"
         return
-    one, two = (rights_of(player, side) for side in sides)
+    one, two = (rights_of(player, side, effort) for side in sides)
     found = [key for key in one if key in two and one[key].text != two[key].text]
     if not found:
         yield "<p>Before the first call, each process that both worlds have may do the same to each object that both have.</p>\n"
@@ -155,7 +156,7 @@ def style_of(sides: Sides, table: PairTable) -> Iterator[str]:
         yield from (rule + "\n" for rule in pattern_rules(each.patterns, each.letter, f".g.{name}"))
 
 
-def page_of(player: Player, sides: Sides) -> Iterator[str]:
+def page_of(player: Player, sides: Sides, effort: Effort) -> Iterator[str]:
     """The page of two runs, in pieces."""
     pairs = list(pairs_of(*(side.run for side in sides)))
     one, two = (make_table(side.run, make_lanes(side.run, side.order, MOST_LANES), side.views, letter)
@@ -166,7 +167,7 @@ def page_of(player: Player, sides: Sides) -> Iterator[str]:
         "world": ("Lines of the worlds that differ", world_section(sides)),
         "labels": ("Labels", labels_section(sides)),
         "processes": ("Processes", both_processes(sides)),
-        "may": ("Who may: answers that differ", rights_section(player, sides)),
+        "may": ("Who may: answers that differ", rights_section(player, sides, effort)),
         "words": ("Checks and refusals", words_section(*(side.run for side in sides))),
     }
     data = {"sides": [{**data_of(side), "name": name, "cells": f"td.{each}"} for side, name, each in zip(sides, NAMES, CLASSES)],

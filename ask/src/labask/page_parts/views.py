@@ -7,7 +7,7 @@ from dataclasses import dataclass
 from typing import Dict, FrozenSet, Iterator, List, Optional, Sequence, Tuple
 
 from labask.answers import WrongWords
-from labask.effort import default_effort
+from labask.effort import Effort
 from labask.playing import Player, PlayingFault
 from labask.worlds import UTILITIES, ScriptLine, World
 
@@ -115,9 +115,8 @@ def view_of(player: Player, run: Run, ranks: Ranks, label: str) -> View:
     return View(label, dominated, seen, crossing_call(player, run, label, after) if crossed else None)
 
 
-def views_of(player: Player, run: Run, ranks: Ranks, labels: Sequence[str]) -> List[View]:
+def views_of(player: Player, run: Run, ranks: Ranks, labels: Sequence[str], effort: Effort) -> List[View]:
     """Plays what labels see, and gives it in the order of the labels; says how far it is where that is a terminal."""
-    effort = default_effort()
     views: List[View] = []
     ordered = sorted(labels, key=lambda label: ranks.order.get(label, -1))
     for view in effort.results(lambda label: view_of(player, run, ranks, label), ordered):

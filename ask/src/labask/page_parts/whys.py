@@ -4,6 +4,7 @@ from itertools import islice, takewhile
 from typing import Dict, FrozenSet, Tuple
 
 from labask.asking import Asked, explain_all
+from labask.effort import Effort
 from labask.observing import NoObserver
 from labask.playing import Outcome, Played, Player
 
@@ -34,7 +35,7 @@ def beginning_of(run: Run, call: int) -> Played:
     return replace(run.played, out=b"".join(each + b"\n" for each in lines))
 
 
-def make_whys(player: Player, run: Run) -> Whys:
+def make_whys(player: Player, run: Run, effort: Effort) -> Whys:
     """Explains the first calls of a run that were denied or refused, or that executed a program."""
     numbers = first_asked(run)
     if not numbers:
@@ -42,7 +43,9 @@ def make_whys(player: Player, run: Run) -> Whys:
     left = f"Not asked: of the calls that were not done or executed a program, the first {len(numbers)} are explained here. " \
         "labask why FILE N explains call N."
     try:
-        found = explain_all(run.world, beginning_of(run, max(numbers)), player, Asked(numbers, None, True))
+        found = explain_all(run.world, beginning_of(run, max(numbers)), player, Asked(numbers, None, True), effort)
     except NoObserver as fault:
         return Whys({}, f"Not explained here: {fault}.")
+    finally:
+        effort.clear()
     return Whys({each.reply.number: tuple(line.strip() for line in list(each.own_lines())[1:]) for each in found}, left)

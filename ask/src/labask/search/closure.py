@@ -213,8 +213,9 @@ class Closure:
                     self.births[item].add(cast.item_of[directory])
                     self.inside_at_start[cast.item_of[directory]].add(item)
                     yield (ENTRY, cast.item_of[directory], item)
-        if self.problem.source is not None:
-            yield (TAINT, cast.item_of[self.problem.source])
+        for source in (self.problem.source, *self.problem.others):
+            if source is not None:
+                yield (TAINT, cast.item_of[source])
         if self.problem.knows is not None:
             family = cast.family_of[self.problem.knows]
             yield (HOLDS, family, self.number(cast.first_credentials(family)))

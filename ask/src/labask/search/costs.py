@@ -3,7 +3,7 @@
 The bound is that of landmark cuts: again and again, a set of steps is found of which every script needs one.
 """
 from collections import deque
-from typing import Deque, Dict, Iterable, List, NamedTuple, Sequence, Tuple
+from typing import Deque, Dict, Iterable, List, NamedTuple, Sequence, Set, Tuple
 
 from labask.search.facts import GOAL, TRUE, Fact, Step
 
@@ -22,9 +22,9 @@ class Task:
 
     def __init__(self, steps: Sequence[Step]):
         self.given = steps
-        self.numbers: Dict[Fact, int] = {TRUE: 0, GOAL: 1}
-        self.needs = [tuple({self.number(fact) for fact in step.needs} or {0}) for step in steps]
-        self.makes = [tuple({self.number(fact) for fact in step.makes}) for step in steps]
+        numbers = self.numbers = {TRUE: 0, GOAL: 1}
+        self.needs = [tuple({numbers.setdefault(fact, len(numbers)) for fact in step.needs} or {0}) for step in steps]
+        self.makes = [tuple({numbers.setdefault(fact, len(numbers)) for fact in step.makes}) for step in steps]
         self.costs = [step.cost for step in steps]
         self.needed: List[List[int]] = [[] for _ in self.numbers]
         self.made: List[List[int]] = [[] for _ in self.numbers]
@@ -33,10 +33,6 @@ class Task:
                 self.needed[fact].append(at)
             for fact in makes:
                 self.made[fact].append(at)
-
-    def number(self, fact: Fact) -> int:
-        """The number of a fact."""
-        return self.numbers.setdefault(fact, len(self.numbers))
 
     def known(self, facts: Iterable[Fact]) -> List[int]:
         """The numbers of the facts that some step needs."""
@@ -60,18 +56,12 @@ class Task:
                 left[step] -= 1
                 if left[step] == 0:
                     steps[step], dearest[step] = cost, fact
-                    self.spread(step, cost + costs[step], costs[step], facts, waiting)
+                    whole, note = cost + costs[step], waiting.append if costs[step] else waiting.appendleft
+                    for made in self.makes[step]:
+                        if whole < facts[made]:
+                            facts[made] = whole
+                            note((whole, made))
         return Reached(facts, steps, dearest)
-
-    def spread(self, step: int, cost: int, own: int, facts: List[int], waiting: Deque[Tuple[int, int]]) -> None:
-        """Notes what the facts that a step makes cost."""
-        for made in self.makes[step]:
-            if cost < facts[made]:
-                facts[made] = cost
-                if own:
-                    waiting.append((cost, made))
-                else:
-                    waiting.appendleft((cost, made))
 
     def left(self, costs: Sequence[int]) -> List[int]:
         """What is left at least to the goal where a fact is used, for each fact."""
@@ -136,7 +126,7 @@ class Task:
             for step in self.needed[fact]:
                 if reached.dearest[step] != fact:
                     continue
-                if any(near[made] for made in self.makes[step]):
+                if not near.isdisjoint(self.makes[step]):
                     found.append(step)
                     continue
                 for made in self.makes[step]:
@@ -145,16 +135,14 @@ class Task:
                         waiting.append(made)
         return found
 
-    def near_goal(self, reached: Reached, costs: Sequence[int]) -> List[bool]:
+    def near_goal(self, reached: Reached, costs: Sequence[int]) -> Set[int]:
         """The facts from which dearest needs lead to the goal without cost."""
-        near = [False] * len(self.numbers)
-        near[1] = True
-        waiting = [1]
+        near, waiting = {1}, [1]
         while waiting:
             for step in self.made[waiting.pop()]:
                 need = reached.dearest[step]
-                if costs[step] == 0 and need >= 0 and not near[need]:
-                    near[need] = True
+                if costs[step] == 0 and need >= 0 and need not in near:
+                    near.add(need)
                     waiting.append(need)
         return near
 

@@ -30,7 +30,8 @@ class Choices(NamedTuple):
 class Problem:
     """A search: the first state, with the mark in the object FROM or with a process that knows it, and TO.
 
-    TO is a process, or an object with the names of its path. Where `program` is given, the process is to execute it.
+    TO is a process, or an object with the names of its path. Where `program` is given, the process is to execute it. The bytes of
+    `others` count as those of FROM in a closure.
     """
     state: State
     source: Optional[Number] = None
@@ -40,6 +41,7 @@ class Problem:
     knows: Optional[Number] = None
     program: Optional[Number] = None
     choices: Choices = Choices()
+    others: Tuple[Number, ...] = ()
 
     @functools.cached_property
     def classes(self) -> Classes:
@@ -54,7 +56,8 @@ class Problem:
     @functools.cached_property
     def kept(self) -> Set[Number]:
         """The objects that are like no other one: those that are asked for, and the directories above them and on the path TO."""
-        waiting = [self.state.root, *(each for each in (self.source, self.thing, self.program) if each is not None)]
+        named = (self.source, self.thing, self.program, *self.others)
+        waiting = [self.state.root, *(each for each in named if each is not None)]
         here: Optional[Number] = self.state.root
         for name in self.names:
             here = self.state.names.get(here, {}).get(name) if here is not None else None

@@ -2,7 +2,7 @@
 import dataclasses
 import random
 from collections import defaultdict
-from typing import Any, DefaultDict, Dict, Iterable, Iterator, List, Sequence, Set, Tuple
+from typing import Any, DefaultDict, Dict, Iterable, Iterator, List, NamedTuple, Optional, Sequence, Set, Tuple
 
 from labask.kernel.state import Number
 from labask.search.costs import Task
@@ -19,6 +19,24 @@ PLACES: Dict[str, Tuple[int, ...]] = {
 ORDERS = 8  # of the facts, in which the better bound is asked
 
 
+class Simple(NamedTuple):
+    """Steps with their simple bounds: how many calls there are at least from each step on, and in a script that has it. `start` has
+    the numbers of the first facts."""
+    task: Task
+    start: List[int]
+    due: List[int]
+    least: List[int]
+
+
+def simple(given: Sequence[Step], facts: Sequence[Fact]) -> Simple:
+    """The simple bounds of steps, where these facts are the first."""
+    task = Task(given)
+    start, left = sorted(set(task.known(facts))), task.left(task.costs)
+    before = task.reach(start, task.costs).steps
+    due = [step.cost + min(map(left.__getitem__, makes)) for step, makes in zip(given, task.makes)]
+    return Simple(task, start, due, [one + rest for one, rest in zip(before, due)])
+
+
 def kept_steps(steps: Iterable[Step], first: Iterable[Fact], bound: int) -> List[Tuple[int, Step]]:
     """The steps that a script of so many calls can have, each with how many calls there are at least from it on; none without one.
 
@@ -26,18 +44,17 @@ def kept_steps(steps: Iterable[Step], first: Iterable[Fact], bound: int) -> List
     is asked several times.
     """
     given, facts = list(steps), list(first)
+    asked: Optional[Simple] = None
     due: List[int] = []
     for turn in range(ORDERS + 1):
-        task = Task(given)
-        start, left = sorted(set(task.known(facts))), task.left(task.costs)
-        before = task.reach(start, task.costs).steps
-        due = [step.cost + min(left[made] for made in makes) for step, makes in zip(given, task.makes)]
-        at_least = [one + rest for one, rest in zip(before, due)]
+        asked = asked or simple(given, facts)
+        least, due = asked.least, asked.due
         if turn:
-            ordered = random.Random(turn).sample(start, len(start))
-            at_least = [max(both) for both in zip(at_least, task.through(ordered, bound))]
-        kept = [at for at, least in enumerate(at_least) if least <= bound]
-        given, due = [given[at] for at in kept], [due[at] for at in kept]
+            ordered = random.Random(turn).sample(asked.start, len(asked.start))
+            least = [max(both) for both in zip(least, asked.task.through(ordered, bound))]
+        kept = [at for at, count in enumerate(least) if count <= bound]
+        if len(kept) < len(given):
+            given, due, asked = [given[at] for at in kept], [due[at] for at in kept], None
         if not given:
             break
     return list(zip(due, given))
