@@ -2,6 +2,7 @@
 #
 #     make install [PREFIX=/usr/local] [DESTDIR=]
 #     make uninstall [PREFIX=/usr/local] [DESTDIR=]
+#     make dist        packs the program that the gate has built, below out/: packaging/release.py says how
 #
 # For those who change the repository (CONTRIBUTING.md):
 #
@@ -52,10 +53,13 @@ docs-check:
 test: all
 	tests/check_program.sh
 
+dist:
+	@PYTHONDONTWRITEBYTECODE=1 python3 packaging/release.py pack
+
 uninstall:
 	rm -f '$(DESTDIR)$(bindir)/labsys' '$(DESTDIR)$(libexecdir)/labsys' '$(DESTDIR)$(mandir)/man1/labsys.1'
 	rm -f '$(DESTDIR)$(bindir)/labask' '$(DESTDIR)$(mandir)/man1/labask.1'
 	rm -rf '$(DESTDIR)$(askdir)'
 	rm -f '$(DESTDIR)$(bashdir)/labsys' '$(DESTDIR)$(zshdir)/_labsys' '$(DESTDIR)$(bashdir)/labask' '$(DESTDIR)$(zshdir)/_labask' '$(DESTDIR)$(vimdir)/labsys.vim'
 
-.PHONY: all install check docs-check test uninstall
+.PHONY: all install check docs-check test dist uninstall

@@ -6,6 +6,7 @@ cd "$(dirname "$0")/.." || exit 1
 ./labsys play /dev/null <examples/read_by_capability.txt || exit $?
 tests/help.sh || exit $?
 python3 tests/first_use.py || exit $?
+python3 tests/release.py --program crates/labsys/out/labsys || exit $?
 python3 tests/messages.py --cmd ./labsys || exit $?
 python3 tests/examples.py --cmd ./labsys || exit $?
 python3 tests/man_page.py --cmd ./labsys || exit $?
@@ -13,6 +14,7 @@ python3 tests/mistakes.py --cmd ./labsys || exit $?
 python3 tests/prefixes.py --cmd ./labsys || exit $?
 python3 tests/trails.py --cmd ./labsys || exit $?
 python3 tests/least.py --cmd ./labsys || exit $?
+python3 tests/never.py --cmd ./labsys || exit $?
 python3 tests/programs.py --cmd ./labsys || exit $?
 python3 tests/run_cases.py --cmd ./labsys tests/cases || exit $?
 LABSYS=crates/labsys/out/labsys tests/check_labask.sh
