@@ -10,7 +10,7 @@ from labask.kernel_profile import CAPABILITIES
 from labask.playing import Player
 from labask.proved import Proved, proved
 from labask.who import Answer, Right, ask
-from labask.worlds import World, path_word, read_file, read_world
+from labask.worlds import World, WorldObject, path_word, read_file, read_world
 
 NOT_EVER = "What such a label and those below it see is the same whatever else is in the world."
 WHO_MAY = "Who may execute a program was played by labsys, by a single call at the start; other calls may change it."
@@ -32,13 +32,26 @@ class Trusted:
     executing: Tuple[Answer, ...] = ()
     program: bool = False
 
+    @property
+    def shown_name(self) -> str:
+        """The tag of the process, or the path of the program as a word."""
+        return path_word(self.name.encode("latin-1")) if self.program else self.name
+
+    @property
+    def what(self) -> str:
+        """Which capabilities are held or given, in words."""
+        return f"{'gives' if self.program else 'holds'} {','.join(in_order(self.capabilities))}"
+
+    @property
+    def may_execute(self) -> str:
+        """Which processes may execute the program at the start, in words."""
+        if not self.program:
+            return "-"
+        return ", ".join(each.process + ("" if each.text == "yes" else f" {each.text}") for each in self.executing) or "none at the start"
+
     def row(self) -> List[str]:
         """The row of the table."""
-        what = ",".join(in_order(self.capabilities))
-        may = ", ".join(each.process + ("" if each.text == "yes" else f" {each.text}") for each in self.executing) or "none at the start"
-        if self.program:
-            return [path_word(self.name.encode("latin-1")), self.label, f"gives {what}", may]
-        return [self.name, self.label, f"holds {what}", "-"]
+        return [self.shown_name, self.label, self.what, self.may_execute]
 
     def as_json(self) -> Dict[str, Any]:
         """The row as JSON has it."""
@@ -47,20 +60,25 @@ class Trusted:
         return {**found, "executing": [each.as_json() for each in self.executing]} if self.program else found
 
 
-def programs_of(world: World, found: Proved, player: Player, effort: Effort) -> Iterator[Trusted]:
-    """The programs that may give some of the capabilities over labels, each with the processes that may execute it at the start."""
-    programs = {path: world.objects_by_path[path.encode("latin-1")] for path, _ in found.gives}
-    answers = ask(world, world.processes, list(programs.values()), player, effort)
+def programs_of(world: World, found: Proved) -> Dict[str, WorldObject]:
+    """The programs that may give some of the capabilities over labels, by their paths."""
+    return {path: world.objects_by_path[path.encode("latin-1")] for path, _ in found.gives}
+
+
+def trusted_programs(world: World, found: Proved, player: Player, effort: Effort, asked: bool) -> Iterator[Trusted]:
+    """These programs, each with the processes that may execute it at the start, where that is asked."""
+    programs = programs_of(world, found)
+    answers = ask(world, world.processes, list(programs.values()), player, effort) if asked and programs else iter(())
     rights = [each for each in answers if each.right is Right.EXECUTE and each.allowed]
     for path, names in found.gives:
         executing = tuple(each for each in rights if each.path == programs[path].path)
         yield Trusted(path, programs[path].label, names, executing, True)
 
 
-def trusted_of(world: World, found: Proved, player: Player, effort: Effort) -> List[Trusted]:
-    """The processes and programs that are trusted not to cross labels."""
+def trusted_of(world: World, found: Proved, player: Player, effort: Effort, asked: bool = True) -> List[Trusted]:
+    """The processes and programs that are trusted not to cross labels; `asked` says whether to ask who may execute the programs."""
     processes = [Trusted(tag, world.processes_by_tag[tag].label, names) for tag, names in found.holds]
-    return [*processes, *(programs_of(world, found, player, effort) if found.gives else ())]
+    return [*processes, *trusted_programs(world, found, player, effort, asked)]
 
 
 def capability_text(found: Proved) -> str:

@@ -107,7 +107,8 @@
   const greyAll = () => {
     batches.filter((batch) => !batch.classList.contains("later")).forEach(greyBatch);
     document.querySelectorAll("tbody[data-tag]").forEach((life) => greyThing(life, afterAt(life.dataset.tag)));
-    document.querySelectorAll("#objects tr[data-label], #rights tr[data-label]").forEach((row) => greyThing(row, row.dataset.label));
+    document.querySelectorAll("#objects tr[data-label], #rights tr[data-label], #never tr[data-label]")
+      .forEach((row) => greyThing(row, row.dataset.label));
     document.querySelectorAll("#labels tr[data-label]").forEach((row) => {
       row.classList.toggle("picked", row.dataset.label === state.label);
     });

@@ -6,6 +6,7 @@ from labask.playing import Outcome, Player
 
 from .document import Sections, document, lane_width, tag_width
 from .lanes import make_lanes, pattern_rules
+from .never import never_section
 from .rights import rights_section
 from .rows import COLUMNS, TOGETHER, Table, make_table, tables_of
 from .run import Run
@@ -45,6 +46,7 @@ def page_of(player: Player, side: Side, effort: Effort) -> Iterator[str]:
         "processes": ("Processes", processes_section(run, side.order)),
         "objects": ("Objects", objects_section(run.world)),
         "rights": ("Who may", rights_section(player, run.world, effort)),
+        "never": ("What no script can do", never_section(player, run.world, effort)),
         "words": ("Checks and refusals", words_section(run)),
     }
     data = {"sides": [data_of(side)], "marked": marked_calls(run), "together": TOGETHER, "columns": len(COLUMNS)}

@@ -9,6 +9,7 @@ from labask.worlds import Line, path_word
 from .document import Sections, document, lane_width, tag_width
 from .lanes import make_lanes, pattern_rules
 from .markup import code, counted, head_row, headed, text
+from .never import never_of_both
 from .pair_rows import CLASSES, COLUMNS, NAMES, PairTable, is_numbered, tables_of
 from .pairs import Difference, Pair, changed_lines, pairs_of
 from .rights import MOST_RIGHTS, count_rights
@@ -162,12 +163,14 @@ def page_of(player: Player, sides: Sides, effort: Effort) -> Iterator[str]:
     one, two = (make_table(side.run, make_lanes(side.run, side.order, MOST_LANES), side.views, letter)
                 for side, letter in zip(sides, "ab"))
     table = PairTable((one, two), pairs)
+    worlds = [(name, side.name, side.run.world) for name, side in zip(NAMES, sides)]
     sections: Sections = {
         "calls": ("Calls", calls_section(sides, table)),
         "world": ("Lines of the worlds that differ", world_section(sides)),
         "labels": ("Labels", labels_section(sides)),
         "processes": ("Processes", both_processes(sides)),
         "may": ("Who may: answers that differ", rights_section(player, sides, effort)),
+        "never": ("What no script can do", never_of_both(player, worlds, effort)),
         "words": ("Checks and refusals", words_section(*(side.run for side in sides))),
     }
     data = {"sides": [{**data_of(side), "name": name, "cells": f"td.{each}"} for side, name, each in zip(sides, NAMES, CLASSES)],
