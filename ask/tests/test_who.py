@@ -4,15 +4,20 @@ Of the search of a directory and of an execution the calls of the test are other
 and `exec` by the process itself.
 """
 import collections
+import json
+import os
 from typing import Counter, Optional, Tuple
 
 import pytest
 from hypothesis import given, settings
 from strategies import worlds
-from support import EXAMPLES
+from support import EXAMPLES, labask
 
 from labask import who
+from labask.kernel_profile import CHECKS
+from labask.never_passed import never_lines, never_passed
 from labask.playing import Outcome, Player
+from labask.proved import proved
 from labask.signatures import CAPABILITIES
 from labask.worlds import Kind, World, WorldObject, path_word, read_world
 
@@ -91,3 +96,78 @@ def test_more_executions_than_numbers_of_processes(player):
     due = ["rules" if number % 8 & bit else "denied" for number in range(1100) for _ in range(4) for bit in bits.values()]
     assert [found.access.value for found in answers[12:]] == due
     assert player.plays - before <= 6, "runs of labsys"
+
+
+def test_no_capability_that_was_exercised_is_never_exercised(player):
+    """What `labsys never` says of random worlds, compared with what was played."""
+    counts = collections.Counter()
+
+    @settings(max_examples=16)
+    @given(worlds(CAPS))
+    def compare(text):
+        world = read_world(text)
+        answers = list(who.ask(world, world.processes, world.objects, player))
+        exercised = {name for each in answers for name in each.capabilities}
+        found = proved(player, text)
+        assert not exercised & found.never
+        checks = {each.check for each in answers if each.check is not None}
+        due = {check: CHECKS[check].capability for check in CHECKS if check in checks and CHECKS[check].capability in found.never}
+        assert never_passed(player, text, checks) == due
+        counts.update(marked=bool(due), unmarked=not due, exercised=bool(exercised))
+
+    compare()
+    assert min(counts[name] for name in ("marked", "exercised")) >= 4
+
+
+MARKED = """world 2
+levels low high
+categories
+bound all
+dir / 0755 0 0 low
+file /f 0600 0 0 low "x"
+file /g 0644 0 0 high "x"
+proc low 1 1 - "{caps}"
+script
+"""
+
+
+@pytest.mark.parametrize("caps, due", [
+    ("=", {"mac_read": "cap_mac_read", "mac_write": "cap_mac_write", "dac_read": "cap_dac_read_search", "dac_write": "cap_dac_write",
+           "dac_execute": "cap_dac_execute"}),
+    ("cap_mac_read,cap_dac_read_search=p", {"mac_write": "cap_mac_write", "dac_write": "cap_dac_write", "dac_execute": "cap_dac_execute"}),
+    ("all=p", {}), ("all=ep", {}),
+], ids=str)
+def test_checks_that_no_capability_overrides(caps, due, tmp_path, program):
+    """A capability that is permitted may be made effective by a script, so it is not said of it."""
+    path = tmp_path / "world.txt"
+    path.write_text(MARKED.format(caps=caps), encoding="ascii")
+    out = labask("who", path)[1].split("\n")
+    assert json.loads(labask("who", path, "--json")[1])["never"] == due
+    said = [line for line in out if line.startswith("Never overridden by a capability")]
+    assert said == never_lines(due) and len(said) == bool(due)
+    assert all(line.endswith(": " + ", ".join(due) + ".") for line in said)
+
+
+def test_only_checks_of_the_table(tmp_path, program):
+    path = tmp_path / "world.txt"
+    path.write_text(MARKED.format(caps="="), encoding="ascii")
+    assert list(json.loads(labask("who", path, "/g", "--json")[1])["never"]) == ["mac_read", "mac_write"]
+    assert json.loads(labask("who", path, "--process", "1@low", "label:high", "--json")[1])["never"] is not None
+
+
+def test_where_nothing_is_denied_labsys_never_is_not_run():
+    assert never_passed(Player(["false"]), b"", ["label_order", "ENOENT"]) == {}
+
+
+@pytest.mark.parametrize("ending", ["exit 1", "exit 2", "echo nothing"])
+def test_labsys_never_without_an_answer(ending, program, open_folder):
+    """The table is answered as before, and there is no line below it."""
+    other = open_folder / "labsys"
+    other.write_text(f'#!/bin/sh\nif [ "$1" = never ]; then cat >/dev/null; {ending}; exit; fi\nexec {os.path.abspath(program)} "$@"\n',
+                     encoding="utf-8")
+    other.chmod(0o755)
+    path = open_folder / "world.txt"
+    path.write_text(MARKED.format(caps="="), encoding="ascii")
+    whole, without = (labask("who", path, *words)[1].split("\n") for words in ((), ("--labsys", str(other))))
+    assert without == [line for line in whole if not line.startswith("Never")] and len(without) == len(whole) - 1
+    assert json.loads(labask("who", path, "--json", "--labsys", str(other))[1])["never"] is None

@@ -1,6 +1,6 @@
 """What `labsys never` says of a world: what no script can do there, whatever its calls."""
 from dataclasses import dataclass
-from typing import Dict, FrozenSet, List, Sequence, Tuple
+from typing import Dict, FrozenSet, List, Optional, Sequence, Tuple
 
 from labask.capability_texts import named
 from labask.kernel_profile import CAPABILITIES
@@ -60,3 +60,11 @@ def proved(player: Player, text: bytes) -> Proved:
         return read_proved(out)
     except ValueError as fault:
         raise PlayingFault(f"{player.program[0]} does not answer as labsys does") from fault
+
+
+def proved_if_answered(player: Player, text: bytes) -> Optional[Proved]:
+    """The same, or None where `labsys never` gives no answer: for what is said besides the answer to another question."""
+    try:
+        return proved(player, text)
+    except (PlayingFault, Refused):
+        return None

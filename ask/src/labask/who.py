@@ -15,6 +15,7 @@ from typing import Any, Dict, Iterable, Iterator, List, NamedTuple, Optional, Se
 from labask.answers import PLAYED, Status, show_table, write_json
 from labask.effort import Effort, add_effort_arguments, effort_of
 from labask.kernel_profile import MAX_DESCRIPTION_NUMBER, MAX_INPUT, MAX_LINE, MAX_PATH, MAX_PATH_NAMES, MAX_PROCESS_NUMBER
+from labask.never_passed import never_lines, never_passed
 from labask.playing import Outcome, Player, Played, read_reply
 from labask.search.limits import add_limit_arguments
 from labask.sets import objects_named, processes_named
@@ -392,11 +393,12 @@ def answer(arguments: argparse.Namespace, player: Player) -> int:
     world = read_world(text)
     processes, objects = chosen(world, arguments.paths, arguments.process)
     answers = list(ask(world, processes, objects, player, effort))
+    never = never_passed(player, text, {each.check for each in answers if each.check is not None})
     if arguments.json:
-        write_json({"played": True, "whole": not effort.stopped, "answers": [each.as_json() for each in answers]})
+        write_json({"played": True, "whole": not effort.stopped, "answers": [each.as_json() for each in answers], "never": never})
     else:
         show_table(rows_of(answers), style_of)
         if effort.stopped:
             print(f"The table is not whole: it was stopped after {len(answers):,} of {count_rights(processes, objects):,} answers.")
-        print(f"{PLAYED} {SINGLE_CALLS}")
+        print("\n".join([*never_lines(never), f"{PLAYED} {SINGLE_CALLS}"]))
     return status_of(answers, not effort.stopped)

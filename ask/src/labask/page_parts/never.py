@@ -6,8 +6,8 @@ from labask.effort import Effort
 from labask.exec_formula import in_order
 from labask.kernel_profile import CAPABILITIES
 from labask.never import Trusted, programs_of, trusted_of
-from labask.playing import Player, PlayingFault, Refused
-from labask.proved import Proved, proved
+from labask.playing import Player
+from labask.proved import Proved, proved_if_answered
 from labask.who import count_rights
 from labask.worlds import World
 
@@ -44,12 +44,11 @@ def few_rights(world: World, found: Proved) -> bool:
 
 def answered(player: Player, world: World, effort: Effort) -> Optional[Answered]:
     """What is said of a world; None where `labsys never` gives no answer about it."""
-    try:
-        found = proved(player, world.text)
-        asked = few_rights(world, found)
-        return Answered(found, trusted_of(world, found, player, effort, asked), asked)
-    except (PlayingFault, Refused):
+    found = proved_if_answered(player, world.text)
+    if found is None:
         return None
+    asked = few_rights(world, found)
+    return Answered(found, trusted_of(world, found, player, effort, asked), asked)
 
 
 def listed(names: Sequence[str]) -> str:
