@@ -87,7 +87,7 @@ def seconds_of(command, world):
         if status not in ANSWERED:
             sys.exit(f"{world}: status {status}")
         out.seek(0)
-        return taken, sum(1 for _ in out) - 2
+        return taken, sum(line.startswith((b"/", b'"')) for line in out)
 
 
 def main():

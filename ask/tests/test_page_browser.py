@@ -304,6 +304,40 @@ def test_contrast_and_overlaps(page: Page, name: str, tmp_path: pathlib.Path) ->
     assert page.evaluate("document.querySelectorAll('img, svg, main script').length") == 0, "text of the world became elements"
 
 
+TRUSTING = b"""world 2
+levels low high
+categories
+bound all
+dir / 0755 0 0 low
+file "/p <b>" 0755 0 0 low "x" "cap_mac_read=ep"
+file /q 0755 0 0 high "x" "cap_mac_write=p"
+proc low 0 0 - "="
+proc high 1 1 - "cap_mac_upgrade=ep"
+script
+1@low getpid
+"""
+TRUSTED = """[...document.querySelectorAll("#never tr[data-label]")].map(row =>
+  [row.querySelector("th").textContent, row.classList.contains("unseen")])"""
+
+
+def test_what_no_script_can_do(page: Page, tmp_path: pathlib.Path) -> None:
+    """What is trusted is grey where the chosen label does not see it, and at 400 pixels its rows are cards, in the pages of one run
+    and of two."""
+    one, both = tmp_path / "trusting.txt", tmp_path / "both.html"
+    one.write_bytes(TRUSTING)
+    assert labask("page", str(one), str(EXAMPLES / "backup_for_all.txt"), "--output", str(both))[0] == 0
+    for path, more in ((make_page(one, tmp_path), []), (both, [["/bin/backup", False]])):
+        page.open(path, "#label=low")
+        assert page.evaluate(TRUSTED) == [["1@high", True], ['"/p <b>"', False], ["/q", True], *more]
+        page.evaluate(HASH % "'label=high'")
+        assert [grey for _, grey in page.evaluate(TRUSTED)] == [False] * (3 + len(more))
+        for width in WIDTHS:
+            page.resize(width, 900)
+            assert page.evaluate(OVERLAPS) == [], f"{width} pixels"
+        assert page.evaluate("getComputedStyle(document.querySelector('#never tr')).display") == "block"
+        assert page.evaluate(UNHEADED) == [] and page.evaluate(CONTRAST) == []
+
+
 def test_page_of_many_calls(page: Page, tmp_path: pathlib.Path) -> None:
     """A label and a call are chosen by the controls as soon as the page is open, before all tables are made."""
     world = long_world(tmp_path, GENERATED)

@@ -99,7 +99,7 @@ def test_trusted_processes_and_programs(trusting: pathlib.Path) -> None:
     assert rows["&quot;/p &lt;b&gt;&quot;"] == ["low", "gives cap_mac_read", "1@low, 1@high"]
     assert rows["/q"] == ["low", "gives cap_mac_write", "1@high"]
     assert rows["1@high"] == ["high", "holds cap_mac_upgrade", "-"]
-    assert "for every script of this world and not for this one alone" in section
+    assert "for every script of this world and not only for this one" in section
 
 
 def test_world_without_trusted_ones() -> None:

@@ -19,7 +19,7 @@ HELD = ("Capabilities that no script exercises", "Capabilities that a script may
         "Labels that a script may cross")
 TRUSTED_HEADS = ("Label", "Trusted with", "May execute it")
 CONFINED = "all of them: no process ever has one of the five capabilities over labels"
-PROVED = ("<p>This holds by proof, for every script of {worlds} and not for {script} alone: <code>labsys never</code> says it without "
+PROVED = ("<p>This holds by proof, for every script of {worlds} and not only for {script}: <code>labsys never</code> says it without "
           "playing a call. What a label that nothing crosses sees is the same whatever else is in the world. That a script may do "
           "something means that it is not ruled out, not that one does it. The labels are those of the processes at the start.</p>\n")
 TRUST = ("<p>The processes that hold one of the five capabilities over labels, and the programs that may give one by <code>exec</code>. "
@@ -113,7 +113,7 @@ def never_section(player: Player, world: World, effort: Effort) -> Iterator[str]
 def never_of_both(player: Player, named: Sequence[Tuple[str, str, World]], effort: Effort) -> Iterator[str]:
     """What no script of each of two worlds can do, side by side; each has the name of its run and that of its file."""
     answers = [answered(player, world, effort) for _, _, world in named]
-    yield PROVED.format(worlds="each world", script="the one that was played")
+    yield PROVED.format(worlds="each world", script="the two that were played")
     yield from held_table([name for name, _, _ in named], answers)
     yield TRUST
     for side, ((name, file, _), one) in enumerate(zip(named, answers)):
