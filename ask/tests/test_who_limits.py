@@ -19,8 +19,9 @@ def cells(path: pathlib.Path, *words: object):
     status, out, said = labask("who", path, *words)
     assert said == "" and status in (0, 3, 4)
     lines = out.split("\n")
-    columns = [lines[0].index(name) for name in lines[0].split()] + [len(max(lines[:-2], key=len)) + 1]
-    rows = [[line[begin:end].strip() for begin, end in zip(columns, columns[1:])] for line in lines[1:-2]]
+    end = -3 if lines[-3].startswith("Never overridden by a capability") else -2
+    columns = [lines[0].index(name) for name in lines[0].split()] + [len(max(lines[:end], key=len)) + 1]
+    rows = [[line[begin:end].strip() for begin, end in zip(columns, columns[1:])] for line in lines[1:end]]
     return [[cell for cell in row if cell != "-"] for row in rows]
 
 
