@@ -96,7 +96,7 @@ def test_an_end_of_the_time_is_said_and_has_a_status() -> None:
     status, out, _ = labask("who", LESSON, "--time", "0")
     assert status == 4 and "The table is not whole: it was stopped after 0 of 60 answers." in out
     status, out, _ = labask("who", LESSON, "--time", "0", "--json")
-    assert status == 4 and json.loads(out) == {"played": True, "whole": False, "answers": []}
+    assert status == 4 and json.loads(out) == {"played": True, "whole": False, "answers": [], "never": {}}
 
 
 def slow_labsys(folder: pathlib.Path, pause: float) -> pathlib.Path:
