@@ -11,7 +11,7 @@ from labask.flow import Answer as FlowAnswer
 from labask.flow import report as flow_report
 from labask.kernel.calls import Call, Path, play
 from labask.kernel.rules import mode_allows
-from labask.kernel.state import Kind, Labels, first_state
+from labask.kernel.state import Kind, Labels, Number, first_state
 from labask.playing import Player, Reply
 from labask.search.finding import Ending, Line, Search
 from labask.search.limits import Limits, limits_of
@@ -19,7 +19,13 @@ from labask.search.side_by_side import results
 from labask.worlds import World, read_file, read_world
 
 Changes = Tuple[Change, ...]
+Script = Tuple[Line, ...]
 MOST_PAIRS = 2_000
+
+
+def renumbered(script: Script, numbers: Dict[Number, Number]) -> Script:
+    """A script whose processes have other numbers."""
+    return tuple(line._replace(who=numbers.get(line.who, line.who)) for line in script)
 
 
 @dataclass(frozen=True)
@@ -36,9 +42,12 @@ class Cut:
 
 @dataclass(frozen=True)
 class Tried:
-    """What came of changes: how the search ended, the script that is left, and whether the script to keep is kept."""
+    """What came of changes: how the search ended, the script that is left, and whether the script to keep is kept.
+
+    Where a script that other changes left does it too, there was no search, and no script is given.
+    """
     ending: Optional[Ending]
-    script: Tuple[Line, ...] = ()
+    script: Script = ()
     found: Optional[Found] = None
     kept: bool = True
 
@@ -50,7 +59,8 @@ class FlowCutter:
         self.world, self.player, self.source, self.goal, self.limits, self.effort = world, player, source, goal, limits, effort
         self.keep = keep
         self.due: List[Reply] = player.play_accepted(world.head() + keep).replies
-        self.known: List[Tuple[Line, ...]] = []
+        self.known: List[Script] = []
+        self.learned: List[Script] = []  # of this process; what other changes left
         self.rights = self.readable(world)
         self.tried = self.undecided = self.lost_replies = 0
 
@@ -76,19 +86,30 @@ class FlowCutter:
         world = self.changed(changes)
         if self.player.play(world.head()).status != 0:
             return Tried(None)
-        same = all(one.tag == other.tag for one, other in zip(world.processes, self.world.processes))
-        flow = self.flow(world)
-        if same and any(self.leads(flow, script) for script in self.known):
+        flow, numbers = self.flow(world), self.numbers(world)
+        same = all(one == other for one, other in numbers.items())
+        replayed = Search(flow.problem(), lambda _: True, lambda: False, 1)
+        if same and any(replayed.replay(script) is not None for script in self.known):
             return Tried(None)
         if not self.keeps(world, changes, same):
             return Tried(None, kept=False)
+        if any(replayed.replay(renumbered(script, numbers)) is not None for script in (*self.known, *self.learned)):
+            return Tried(Ending.FOUND)
+        tried = self.search(changes)
+        if same and tried.ending is Ending.FOUND:
+            self.learned.append(tried.script)
+        return tried
+
+    def search(self, changes: Changes) -> Tried:
+        """What a search finds after changes."""
+        flow = self.flow(self.changed(changes))
         found = flow.find(self.limits.depth, self.limits.states)
         return Tried(flow.result.ending, flow.result.script, found)
 
-    def leads(self, flow: Flow, script: Tuple[Line, ...]) -> bool:
-        """Whether a script leads to TO in a changed world, by the model."""
-        search = Search(flow.problem(), lambda _: True, lambda: False, 1)
-        return search.replay(script) is not None
+    def numbers(self, world: World) -> Dict[Number, Number]:
+        """The numbers that processes have in a changed world."""
+        number = Labels(world.policy).number
+        return {number(one.tag): number(other.tag) for one, other in zip(self.world.processes, world.processes)}
 
     def keeps(self, world: World, changes: Changes, same: bool) -> bool:
         """Whether the script to keep has the same replies."""
@@ -131,7 +152,16 @@ class FlowCutter:
         self.known.append(flow.result.script)
         singles = [(change,) for change in self.candidates(flow.result.script, found)]
         cuts, left = self.try_all(singles, "single changes")
-        return cuts or self.pairs(left)
+        return cuts or self.pairs(self.searched(left))
+
+    def searched(self, left: Sequence[Tuple[Changes, Tried]]) -> List[Tuple[Changes, Tried]]:
+        """Those that leave another flow, each with its script."""
+        without = [changes for changes, tried in left if tried.found is None]
+        found = dict(results(self.effort, self.search, without))
+        whole = [(changes, found.get(changes, tried)) for changes, tried in left]
+        there = [(changes, tried) for changes, tried in whole if tried.found is not None]
+        self.undecided += len(whole) - len(there)
+        return there
 
     def try_all(self, all_changes: Sequence[Changes], what: str) -> Tuple[List[Cut], List[Tuple[Changes, Tried]]]:
         """The cuts among changes, and those that leave another flow."""

@@ -302,6 +302,7 @@ def quoted_word(text: bytes, column: int) -> Tuple[Optional[Word], Optional[Malf
     return Word(text[column:at + 1], bytes(value), column), None
 
 
+@functools.lru_cache(maxsize=8_192)
 def split_words(text: bytes) -> Tuple[Tuple[Word, ...], Optional[MalformedAt]]:
     """The words of a line up to its fault, and the fault, if there is one. A comment has no words."""
     if PLAIN.fullmatch(text):
