@@ -103,7 +103,8 @@ class Lines(Sequence[Line]):
 
     def _line(self, index: int) -> Line:
         ended = self.ended or index + 1 < len(self.pieces)
-        return Line(index + 1, self.pieces[index], *split_words(self.pieces[index]), ended)
+        words, malformed = split_words(self.pieces[index])
+        return Line(index + 1, self.pieces[index], words, malformed, ended)
 
     def filled(self) -> Iterator[Line]:
         """The lines that are not blank."""

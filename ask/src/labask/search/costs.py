@@ -66,7 +66,8 @@ class Task:
         facts = [NEVER] * self.size
         steps, dearest = [NEVER] * len(costs), [-1] * len(costs)
         left = list(map(len, self.needs))
-        now, later, cost = list(first), [], 0  # what costs so much, the next one last; and what costs one more
+        now, cost = list(first), 0  # what costs so much, the next one last
+        later: List[int] = []  # what costs one more
         for fact in now:
             facts[fact] = 0
         now.reverse()
