@@ -4,6 +4,7 @@ The script is looked for in the model of the kernel, and what is found is played
 """
 import argparse
 import dataclasses
+import gc
 from dataclasses import dataclass
 from typing import Any, Callable, Dict, Iterator, List, Optional, Sequence, Tuple, Union
 
@@ -25,6 +26,7 @@ from labask.signatures import CAPABILITIES
 from labask.worlds import Kind, World, WorldObject, WorldProcess, path_word, quoted, read_file, read_world
 
 MOST_BYTES = 64
+COLLECTED_AFTER = 100_000  # new objects, after which Python looks for cycles: a search makes many objects and no cycles to speak of
 STAND_IN = b"bytes of an empty file"
 Goal = Union[str, bytes]  # the tag of a process, or the path of an object
 LOOKED_FOR = """\
@@ -102,6 +104,7 @@ class Flow:
 
     def find(self, depth: int = DEPTH, states: int = STATES) -> Optional[Found]:
         """A shortest script, with at most so many calls."""
+        gc.set_threshold(COLLECTED_AFTER)
         self.search = Search(self.problem(), self.accepts, self.effort.over, states)
         self.result = self.search.find(depth)
         return self.found

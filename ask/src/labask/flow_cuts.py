@@ -11,7 +11,7 @@ from labask.flow import Answer as FlowAnswer
 from labask.flow import report as flow_report
 from labask.kernel.calls import Call, Path, play
 from labask.kernel.rules import mode_allows
-from labask.kernel.state import Kind, Labels, first_state
+from labask.kernel.state import Kind, Labels, Number, first_state
 from labask.playing import Player, Reply
 from labask.search.finding import Ending, Line, Search
 from labask.search.limits import Limits, limits_of
@@ -19,7 +19,14 @@ from labask.search.side_by_side import results
 from labask.worlds import World, read_file, read_world
 
 Changes = Tuple[Change, ...]
+Script = Tuple[Line, ...]
 MOST_PAIRS = 2_000
+AT_ONCE = 4  # searches that do not wait for what the others find; not the number of jobs, so that the answer does not depend on it
+
+
+def renumbered(script: Script, numbers: Dict[Number, Number]) -> Script:
+    """A script whose processes have other numbers."""
+    return tuple(line._replace(who=numbers.get(line.who, line.who)) for line in script)
 
 
 @dataclass(frozen=True)
@@ -36,11 +43,16 @@ class Cut:
 
 @dataclass(frozen=True)
 class Tried:
-    """What came of changes: how the search ended, the script that is left, and whether the script to keep is kept."""
+    """What came of changes: how the search ended, the script that is left, and whether the script to keep is kept.
+
+    Where a script that other changes left does it too, there was no search, and no script is given. `open` are those of which a
+    search has to say it.
+    """
     ending: Optional[Ending]
-    script: Tuple[Line, ...] = ()
+    script: Script = ()
     found: Optional[Found] = None
     kept: bool = True
+    open: bool = False
 
 
 class FlowCutter:
@@ -50,7 +62,8 @@ class FlowCutter:
         self.world, self.player, self.source, self.goal, self.limits, self.effort = world, player, source, goal, limits, effort
         self.keep = keep
         self.due: List[Reply] = player.play_accepted(world.head() + keep).replies
-        self.known: List[Tuple[Line, ...]] = []
+        self.known: List[Script] = []
+        self.learned: List[Script] = []  # what other changes left
         self.rights = self.readable(world)
         self.tried = self.undecided = self.lost_replies = 0
 
@@ -72,23 +85,39 @@ class FlowCutter:
         return Flow(world, self.player, self.source, self.goal_in(world), (), self.effort)
 
     def try_changes(self, changes: Changes) -> Tried:
-        """What comes of changes: nothing where the world is refused then, or a known script still does it."""
+        """What comes of changes without a search: nothing where the world is refused then, or a known script still does it."""
         world = self.changed(changes)
         if self.player.play(world.head()).status != 0:
             return Tried(None)
-        same = all(one.tag == other.tag for one, other in zip(world.processes, self.world.processes))
-        flow = self.flow(world)
-        if same and any(self.leads(flow, script) for script in self.known):
+        same = all(one == other for one, other in self.numbers(world).items())
+        if same and self.is_left(world, self.known):
             return Tried(None)
         if not self.keeps(world, changes, same):
             return Tried(None, kept=False)
+        return Tried(Ending.FOUND) if self.is_left(world, (*self.known, *self.learned)) else Tried(None, open=True)
+
+    def is_left(self, world: World, scripts: Sequence[Script]) -> bool:
+        """Whether one of these scripts leads to TO in a changed world, by the model."""
+        replayed, numbers = Search(self.flow(world).problem(), lambda _: True, lambda: False, 1), self.numbers(world)
+        return any(replayed.replay(renumbered(script, numbers)) is not None for script in scripts)
+
+    def search(self, changes: Changes) -> Tried:
+        """What a search finds after changes, or a script that was learned."""
+        world = self.changed(changes)
+        if self.learned and self.is_left(world, self.learned):
+            return Tried(Ending.FOUND)
+        return self.look(changes)
+
+    def look(self, changes: Changes) -> Tried:
+        """What a search finds after changes."""
+        flow = self.flow(self.changed(changes))
         found = flow.find(self.limits.depth, self.limits.states)
         return Tried(flow.result.ending, flow.result.script, found)
 
-    def leads(self, flow: Flow, script: Tuple[Line, ...]) -> bool:
-        """Whether a script leads to TO in a changed world, by the model."""
-        search = Search(flow.problem(), lambda _: True, lambda: False, 1)
-        return search.replay(script) is not None
+    def numbers(self, world: World) -> Dict[Number, Number]:
+        """The numbers that processes have in a changed world."""
+        number = Labels(world.policy).number
+        return {number(one.tag): number(other.tag) for one, other in zip(self.world.processes, world.processes)}
 
     def keeps(self, world: World, changes: Changes, same: bool) -> bool:
         """Whether the script to keep has the same replies."""
@@ -131,15 +160,23 @@ class FlowCutter:
         self.known.append(flow.result.script)
         singles = [(change,) for change in self.candidates(flow.result.script, found)]
         cuts, left = self.try_all(singles, "single changes")
-        return cuts or self.pairs(left)
+        return cuts or self.pairs(self.searched(left))
+
+    def searched(self, left: Sequence[Tuple[Changes, Tried]]) -> List[Tuple[Changes, Tried]]:
+        """Those that leave another flow, each with its script."""
+        without = [changes for changes, tried in left if tried.found is None]
+        found = dict(results(self.effort, self.look, without))
+        whole = [(changes, found.get(changes, tried)) for changes, tried in left]
+        there = [(changes, tried) for changes, tried in whole if tried.found is not None]
+        self.undecided += len(whole) - len(there)
+        return there
 
     def try_all(self, all_changes: Sequence[Changes], what: str) -> Tuple[List[Cut], List[Tuple[Changes, Tried]]]:
         """The cuts among changes, and those that leave another flow."""
         cuts: List[Cut] = []
         left: List[Tuple[Changes, Tried]] = []
-        for changes, tried in results(self.effort, self.try_changes, all_changes):
+        for changes, tried in self.decided(all_changes, what):
             self.tried += 1
-            self.effort.progress(f"cuts: {self.tried} of {len(all_changes)} {what}")
             self.lost_replies += not tried.kept
             if tried.ending is Ending.NEVER:
                 cuts.append(Cut(changes, len(self.rights - self.readable(self.changed(changes)))))
@@ -149,6 +186,28 @@ class FlowCutter:
                 self.undecided += 1
         self.effort.clear()
         return sorted(cuts, key=lambda cut: cut.lost), left
+
+    def decided(self, all_changes: Sequence[Changes], what: str) -> List[Tuple[Changes, Tried]]:
+        """What comes of changes, as far as there is time. The first search is made alone: what it finds may spare the others."""
+        found: Dict[Changes, Tried] = {}
+        for changes, tried in results(self.effort, self.try_changes, all_changes):
+            found[changes] = tried
+            self.effort.progress(f"cuts: {len(found)} of {len(all_changes)} {what}")
+        waiting, most = [changes for changes, tried in found.items() if tried.open], 1
+        while waiting and not self.effort.stopped:
+            searched = dict(results(self.effort, self.search, waiting[:most]))
+            found.update(searched)
+            self.learn(searched)
+            waiting, most = waiting[most:], min(2 * most, AT_ONCE)
+            self.effort.progress(f"cuts: {len(waiting)} of {len(all_changes)} {what} are left to be searched")
+        return [(changes, found[changes]) for changes in all_changes if changes in found and not found[changes].open]
+
+    def learn(self, searched: Dict[Changes, Tried]) -> None:
+        """Notes the scripts that were found after changes which leave the processes their numbers."""
+        for changes, tried in searched.items():
+            numbers = self.numbers(self.changed(changes))
+            if tried.script and all(one == other for one, other in numbers.items()):
+                self.learned.append(tried.script)
 
     def pairs(self, left: Sequence[Tuple[Changes, Tried]]) -> List[Cut]:
         """The cuts of two changes: each of those that leave another flow, with a change of what that flow has."""

@@ -103,7 +103,8 @@ class Lines(Sequence[Line]):
 
     def _line(self, index: int) -> Line:
         ended = self.ended or index + 1 < len(self.pieces)
-        return Line(index + 1, self.pieces[index], *split_words(self.pieces[index]), ended)
+        words, malformed = split_words(self.pieces[index])
+        return Line(index + 1, self.pieces[index], words, malformed, ended)
 
     def filled(self) -> Iterator[Line]:
         """The lines that are not blank."""
@@ -302,6 +303,7 @@ def quoted_word(text: bytes, column: int) -> Tuple[Optional[Word], Optional[Malf
     return Word(text[column:at + 1], bytes(value), column), None
 
 
+@functools.lru_cache(maxsize=8_192)
 def split_words(text: bytes) -> Tuple[Tuple[Word, ...], Optional[MalformedAt]]:
     """The words of a line up to its fault, and the fault, if there is one. A comment has no words."""
     if PLAIN.fullmatch(text):

@@ -17,22 +17,44 @@ class Reached(NamedTuple):
     dearest: List[int]
 
 
+def by_fact(facts_of: Sequence[Sequence[int]], size: int) -> List[List[int]]:
+    """For each fact the steps that have it among these facts of theirs."""
+    found: List[List[int]] = [[] for _ in range(size)]
+    for at, facts in enumerate(facts_of):
+        for fact in facts:
+            found[fact].append(at)
+    return found
+
+
 class Task:
     """Steps with numbers in place of facts."""
 
     def __init__(self, steps: Sequence[Step]):
-        self.given = steps
-        numbers = self.numbers = {TRUE: 0, GOAL: 1}
-        self.needs = [tuple({numbers.setdefault(fact, len(numbers)) for fact in step.needs} or {0}) for step in steps]
-        self.makes = [tuple({numbers.setdefault(fact, len(numbers)) for fact in step.makes}) for step in steps]
+        self.numbers: Dict[Fact, int] = {TRUE: 0, GOAL: 1}
+        number = self.numbers.setdefault
+        needs = [[number(fact, len(self.numbers)) for fact in step.needs] or [0] for step in steps]
+        makes = [[number(fact, len(self.numbers)) for fact in step.makes] for step in steps]
+        self.put(steps, needs, makes, len(self.numbers))
+
+    def put(self, steps: Sequence[Step], needs: Sequence[Sequence[int]], makes: Sequence[Sequence[int]], size: int) -> None:
+        """Puts steps in, with the numbers of what they need and make in their order, which are below a size."""
+        self.given, self.needs_in_order, self.makes_in_order, self.size = steps, needs, makes, size
+        self.needs, self.makes = [tuple(set(each)) for each in needs], [tuple(set(each)) for each in makes]
         self.costs = [step.cost for step in steps]
-        self.needed: List[List[int]] = [[] for _ in self.numbers]
-        self.made: List[List[int]] = [[] for _ in self.numbers]
-        for at, (needs, makes) in enumerate(zip(self.needs, self.makes)):
-            for fact in needs:
-                self.needed[fact].append(at)
-            for fact in makes:
-                self.made[fact].append(at)
+        self.needed, self.made = by_fact(self.needs, size), by_fact(self.makes, size)
+
+    def part(self, kept: Sequence[int], first: Sequence[int]) -> Tuple["Task", List[int]]:
+        """The task of some of the steps alone, and the numbers that facts with these numbers have in it.
+
+        It is the one that is made of these steps, but for the facts: the numbers stand for them.
+        """
+        numbers = {0: 0, 1: 1}
+        number = numbers.setdefault
+        needs = [[number(fact, len(numbers)) for fact in self.needs_in_order[at]] for at in kept]
+        makes = [[number(fact, len(numbers)) for fact in self.makes_in_order[at]] for at in kept]
+        task = Task(())
+        task.put([self.given[at] for at in kept], needs, makes, len(numbers))
+        return task, sorted(numbers[fact] for fact in first if fact in numbers)
 
     def known(self, facts: Iterable[Fact]) -> List[int]:
         """The numbers of the facts that some step needs."""
@@ -41,31 +63,32 @@ class Task:
 
     def reach(self, first: Iterable[int], costs: Sequence[int]) -> Reached:
         """What all costs from these facts, where a step costs as much as its dearest need and itself."""
-        facts = [NEVER] * len(self.numbers)
+        facts = [NEVER] * self.size
         steps, dearest = [NEVER] * len(costs), [-1] * len(costs)
-        left = [len(needs) for needs in self.needs]
-        waiting: Deque[Tuple[int, int]] = deque()
-        for fact in first:
+        left = list(map(len, self.needs))
+        now, cost = list(first), 0  # what costs so much, the next one last
+        later: List[int] = []  # what costs one more
+        for fact in now:
             facts[fact] = 0
-            waiting.append((0, fact))
-        while waiting:
-            cost, fact = waiting.popleft()
-            if facts[fact] < cost:
-                continue
-            for step in self.needed[fact]:
+        now.reverse()
+        while now:
+            fact = now.pop()
+            for step in self.needed[fact] if facts[fact] >= cost else ():
                 left[step] -= 1
                 if left[step] == 0:
                     steps[step], dearest[step] = cost, fact
-                    whole, note = cost + costs[step], waiting.append if costs[step] else waiting.appendleft
+                    whole, note = (cost + 1, later) if costs[step] else (cost, now)
                     for made in self.makes[step]:
                         if whole < facts[made]:
                             facts[made] = whole
-                            note((whole, made))
+                            note.append(made)
+            if not now:
+                now, later, cost = later[::-1], [], cost + 1
         return Reached(facts, steps, dearest)
 
     def left(self, costs: Sequence[int]) -> List[int]:
         """What is left at least to the goal where a fact is used, for each fact."""
-        found = [NEVER] * len(self.numbers)
+        found = [NEVER] * self.size
         found[1] = 0
         waiting: Deque[int] = deque([1])
         while waiting:
@@ -116,7 +139,7 @@ class Task:
     def cut(self, first: Sequence[int], reached: Reached, costs: Sequence[int]) -> List[int]:
         """Steps of which one is needed: those that lead into what is next to the goal without cost."""
         near = self.near_goal(reached, costs)
-        seen = [False] * len(self.numbers)
+        seen = [False] * self.size
         waiting = list(first)
         for fact in first:
             seen[fact] = True

@@ -1,5 +1,6 @@
 """Looks for a shortest script in the states of the model."""
 import enum
+import functools
 from dataclasses import dataclass
 from typing import Any, Callable, Dict, FrozenSet, Iterator, List, NamedTuple, Optional, Sequence, Set, Tuple
 
@@ -70,7 +71,6 @@ class Search:
         self.accepts, self.over, self.most = accepts, over, most_states
         self.closure = Closure(problem)
         self.cast = self.closure.cast
-        self.grains = grains_of(problem)
         self.collected = True
         self.excluded = 0
         self.numbers: Dict[Any, int] = {}
@@ -80,6 +80,11 @@ class Search:
         self.tasks: Dict[int, Task] = {}
         self.forks: List[Step] = []
         self.failed: Dict[Any, int] = {}
+
+    @functools.cached_property
+    def grains(self) -> List[Grain]:
+        """The grains in which steps are looked for."""
+        return grains_of(self.whole)
 
     def find(self, depth: int) -> Result:
         """Looks for a script of at most so many calls."""

@@ -20,21 +20,17 @@ ORDERS = 8  # of the facts, in which the better bound is asked
 
 
 class Simple(NamedTuple):
-    """Steps with their simple bounds: how many calls there are at least from each step on, and in a script that has it. `start` has
-    the numbers of the first facts."""
-    task: Task
-    start: List[int]
+    """The simple bounds of steps: how many calls there are at least from each step on, and in a script that has it."""
     due: List[int]
     least: List[int]
 
 
-def simple(given: Sequence[Step], facts: Sequence[Fact]) -> Simple:
-    """The simple bounds of steps, where these facts are the first."""
-    task = Task(given)
-    start, left = sorted(set(task.known(facts))), task.left(task.costs)
+def simple(task: Task, start: List[int]) -> Simple:
+    """The simple bounds of the steps of a task, where the facts with these numbers are the first."""
+    left = task.left(task.costs)
     before = task.reach(start, task.costs).steps
-    due = [step.cost + min(map(left.__getitem__, makes)) for step, makes in zip(given, task.makes)]
-    return Simple(task, start, due, [one + rest for one, rest in zip(before, due)])
+    due = [step.cost + min(map(left.__getitem__, makes)) for step, makes in zip(task.given, task.makes)]
+    return Simple(due, [one + rest for one, rest in zip(before, due)])
 
 
 def kept_steps(steps: Iterable[Step], first: Iterable[Fact], bound: int) -> List[Tuple[int, Step]]:
@@ -43,21 +39,23 @@ def kept_steps(steps: Iterable[Step], first: Iterable[Fact], bound: int) -> List
     The better bound takes longer, so that it is asked of what the simple one leaves. It depends on the order of the facts, so that it
     is asked several times.
     """
-    given, facts = list(steps), list(first)
+    task = Task(list(steps))
+    start = sorted(set(task.known(first)))
     asked: Optional[Simple] = None
     due: List[int] = []
     for turn in range(ORDERS + 1):
-        asked = asked or simple(given, facts)
+        asked = asked or simple(task, start)
         least, due = asked.least, asked.due
         if turn:
-            ordered = random.Random(turn).sample(asked.start, len(asked.start))
-            least = [max(both) for both in zip(least, asked.task.through(ordered, bound))]
+            ordered = random.Random(turn).sample(start, len(start))
+            least = [max(both) for both in zip(least, task.through(ordered, bound))]
         kept = [at for at, count in enumerate(least) if count <= bound]
-        if len(kept) < len(given):
-            given, due, asked = [given[at] for at in kept], [due[at] for at in kept], None
-        if not given:
+        if len(kept) < len(due):
+            task, start = task.part(kept, start)
+            due, asked = [due[at] for at in kept], None
+        if not kept:
             break
-    return list(zip(due, given))
+    return list(zip(due, task.given))
 
 
 def items_of(steps: Iterable[Step]) -> Set[int]:
