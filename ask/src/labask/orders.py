@@ -10,7 +10,7 @@ from typing import Any, Dict, Iterator, List, Optional, Sequence, Tuple
 
 from labask.answers import Status, table, write_json
 from labask.command_words import number
-from labask.effort import Effort, add_effort_arguments, effort_of
+from labask.effort import Effort, add_dask_argument, add_effort_arguments, effort_of
 from labask.interleaving import Broken, Findings, Interleaving, Move, Node, Written
 from labask.order_rules import Rule, RuleReader
 from labask.playing import Player, PlayingFault
@@ -29,6 +29,7 @@ def add_arguments(parser: argparse.ArgumentParser) -> None:
     parser.add_argument("--orders", metavar="N", type=number, default=ORDERS,
                         help=f"the most orders that labsys plays to have every step; {ORDERS} by default")
     add_effort_arguments(parser)
+    add_dask_argument(parser)
 
 
 @dataclass(frozen=True)
