@@ -1,0 +1,91 @@
+#!/usr/bin/env python3
+"""Measures what docs/SCALE.md says of plays: what one takes, and what a cluster of dask.distributed adds.
+
+    bench/scale.py plays [--cmd PROGRAM] [OBJECTS ...]
+    bench/scale.py tasks [--cmd PROGRAM] ADDRESS
+
+`plays` plays hospitals of bench/labask.py, each with its rounds, many times one after another: the seconds of the processor that
+`labsys` takes, those that `labask` takes besides, and the most memory of a play. `tasks` has a cluster play a small world, in
+batches of one and in larger ones. The last line says how busy the machine was.
+"""
+import argparse
+import os
+import pathlib
+import resource
+import sys
+import tempfile
+import time
+
+import labask as hospitals
+
+TOP = pathlib.Path(__file__).resolve().parent.parent
+SMALL_WORLDS = 2_000
+PLAYS_SECONDS = 5.0
+
+
+def labask_module(name):
+    """A module of the package labask, in place of the script of this folder that has its name."""
+    sys.modules.pop("labask", None)
+    sys.path.insert(0, str(TOP / "ask" / "src"))
+    return __import__(f"labask.{name}", fromlist=["*"])
+
+
+def used(who):
+    """The seconds of the processor that were used."""
+    usage = resource.getrusage(who)
+    return usage.ru_utime + usage.ru_stime
+
+
+def resident(program, text):
+    """The KiB that a play takes at most."""
+    with tempfile.TemporaryFile() as given, open(os.devnull, "wb") as out, tempfile.TemporaryDirectory() as folder:
+        given.write(text)
+        given.seek(0)
+        files = [(os.POSIX_SPAWN_DUP2, given.fileno(), 0), (os.POSIX_SPAWN_DUP2, out.fileno(), 1)]
+        pid = os.posix_spawn(program, [program, "play", os.path.join(folder, "trail")], os.environ, file_actions=files)
+        return os.wait4(pid, 0)[2].ru_maxrss
+
+
+def measure_plays(program, sizes):
+    """A row for a world of each size."""
+    player = labask_module("playing").Player([program])
+    print("| Objects | Bytes | Calls | labsys, ms | labask, ms | Memory, MiB |")
+    for size in sizes:
+        text = hospitals.hospital(size, True).encode("ascii")
+        calls = len(player.play_accepted(text).replies)
+        count, begin, own, others = 0, time.monotonic(), used(resource.RUSAGE_SELF), used(resource.RUSAGE_CHILDREN)
+        while time.monotonic() < begin + PLAYS_SECONDS:
+            player.play_accepted(text)
+            count += 1
+        own, others = used(resource.RUSAGE_SELF) - own, used(resource.RUSAGE_CHILDREN) - others
+        print(f"| {size:,} | {len(text):,} | {calls:,} | {1000 * others / count:.1f} | {1000 * own / count:.1f} | "
+              f"{resident(program, text) / 1024:.1f} |", flush=True)
+
+
+def measure_tasks(program, address):
+    """A row for batches of each size."""
+    playing, cluster = labask_module("playing"), labask_module("cluster")
+    asked, play = cluster.cluster_at(address), playing.Player([program]).play
+    print("| Batches of at most | Plays | Seconds | ms a play |")
+    for most in (1, 16, 256):
+        begin = time.monotonic()
+        done = sum(1 for _ in asked.results(play, [playing.SMALL_WORLD] * SMALL_WORLDS, lambda: False, most))
+        taken = time.monotonic() - begin
+        print(f"| {most} | {done:,} | {taken:.2f} | {1000 * taken / done:.2f} |", flush=True)
+
+
+def main():
+    parser = argparse.ArgumentParser(description="Measures plays, and what a cluster adds to them.")
+    parser.add_argument("what", choices=("plays", "tasks"))
+    parser.add_argument("--cmd", default=str(hospitals.BUILT), metavar="PROGRAM", help="the program labsys")
+    parser.add_argument("words", metavar="OBJECTS or ADDRESS", nargs="*")
+    words = parser.parse_intermixed_args()
+    if words.what == "plays":
+        measure_plays(words.cmd, [int(word) for word in words.words] or hospitals.SIZES)
+    else:
+        measure_tasks(words.cmd, words.words[0])
+    print(f"load of the machine: {os.getloadavg()[0]:.1f}, of {os.cpu_count()} processors")
+
+
+if __name__ == "__main__":
+    main()
