@@ -17,6 +17,7 @@ import tempfile
 import time
 
 import labask as hospitals
+import started
 
 TOP = pathlib.Path(__file__).resolve().parent.parent
 SMALL_WORLDS = 2_000
@@ -37,13 +38,11 @@ def used(who):
 
 
 def resident(program, text):
-    """The KiB that a play takes at most."""
-    with tempfile.TemporaryFile() as given, open(os.devnull, "wb") as out, tempfile.TemporaryDirectory() as folder:
-        given.write(text)
-        given.seek(0)
-        files = [(os.POSIX_SPAWN_DUP2, given.fileno(), 0), (os.POSIX_SPAWN_DUP2, out.fileno(), 1)]
-        pid = os.posix_spawn(program, [program, "play", os.path.join(folder, "trail")], os.environ, file_actions=files)
-        return os.wait4(pid, 0)[2].ru_maxrss
+    """The MiB that a play takes at most."""
+    with tempfile.TemporaryDirectory() as name:
+        folder = pathlib.Path(name)
+        (folder / "world").write_bytes(text)
+        return started.taken(started.compiled("start", folder), [program, "play", "trail"], folder / "world", os.devnull, folder).mib
 
 
 def measure_plays(program, sizes):
@@ -59,7 +58,7 @@ def measure_plays(program, sizes):
             count += 1
         own, others = used(resource.RUSAGE_SELF) - own, used(resource.RUSAGE_CHILDREN) - others
         print(f"| {size:,} | {len(text):,} | {calls:,} | {1000 * others / count:.1f} | {1000 * own / count:.1f} | "
-              f"{resident(program, text) / 1024:.1f} |", flush=True)
+              f"{resident(program, text):.1f} |", flush=True)
 
 
 def measure_tasks(program, address):
