@@ -1,12 +1,13 @@
 #!/usr/bin/env python3
-"""Measures what docs/SCALE.md says of plays: what one takes, and what a cluster of dask.distributed adds.
+"""Measures what docs/SCALE.md says of plays: what one takes, and what a cluster of dask.distributed adds to it.
 
     bench/scale.py plays [--cmd PROGRAM] [OBJECTS ...]
     bench/scale.py tasks [--cmd PROGRAM] ADDRESS
 
 `plays` plays hospitals of bench/labask.py, each with its rounds, many times one after another: the seconds of the processor that
 `labsys` takes, those that `labask` takes besides, and the most memory of a play. `tasks` has a cluster play a small world, in
-batches of one and in larger ones. The last line says how busy the machine was.
+batches of one and in larger ones, and says how many milliseconds of the processor each play takes of labask, the scheduler and the
+workers, without those of labsys. The last line says how busy the machine was.
 """
 import argparse
 import os
@@ -61,16 +62,27 @@ def measure_plays(program, sizes):
               f"{resident(program, text):.1f} |", flush=True)
 
 
+def processor_seconds(client):
+    """The seconds of the processor that this process, the scheduler and the workers have used, without those of labsys."""
+    workers = client.run(time.process_time)
+    return [time.process_time(), client.run_on_scheduler(time.process_time), sum(workers.values())]
+
+
 def measure_tasks(program, address):
-    """A row for batches of each size."""
-    playing, cluster = labask_module("playing"), labask_module("cluster")
-    asked, play = cluster.cluster_at(address), playing.Player([program]).play
-    print("| Batches of at most | Plays | Seconds | ms a play |")
-    for most in (1, 16, 256):
-        begin = time.monotonic()
-        done = sum(1 for _ in asked.results(play, [playing.SMALL_WORLD] * SMALL_WORLDS, lambda: False, most))
-        taken = time.monotonic() - begin
-        print(f"| {most} | {done:,} | {taken:.2f} | {1000 * taken / done:.2f} |", flush=True)
+    """A row for plays by as many threads as the cluster has, and for batches of each size."""
+    playing, cluster, effort = map(labask_module, ("playing", "cluster", "effort"))
+    asked, play, texts = cluster.cluster_at(address), playing.Player([program]).play, [playing.SMALL_WORLD] * SMALL_WORLDS
+    client = asked.client
+    jobs = sum(client.nthreads().values())
+    ways = {f"none, `--jobs {jobs}`": lambda: effort.Effort(jobs).results(play, texts)}
+    ways.update({f"at most {most}": lambda most=most: asked.results(play, texts, lambda: False, most) for most in (1, 16, 256)})
+    print("| Batches | Plays | Seconds | labask, ms | Scheduler, ms | Workers, ms |")
+    for name, way in ways.items():
+        begin, before = time.monotonic(), processor_seconds(client)
+        done = sum(1 for _ in way())
+        taken, used_by = time.monotonic() - begin, [then - first for then, first in zip(processor_seconds(client), before)]
+        cells = " | ".join(f"{1000 * seconds / done:.2f}" for seconds in used_by)
+        print(f"| {name} | {done:,} | {taken:.1f} | {cells} |", flush=True)
 
 
 def main():
@@ -79,6 +91,8 @@ def main():
     parser.add_argument("--cmd", default=str(hospitals.BUILT), metavar="PROGRAM", help="the program labsys")
     parser.add_argument("words", metavar="OBJECTS or ADDRESS", nargs="*")
     words = parser.parse_intermixed_args()
+    if words.what == "tasks" and len(words.words) != 1:
+        parser.error("the address of a cluster is missing")
     if words.what == "plays":
         measure_plays(words.cmd, [int(word) for word in words.words] or hospitals.SIZES)
     else:

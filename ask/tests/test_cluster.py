@@ -194,6 +194,21 @@ def test_a_worker_without_labask_is_named(program: str, tmp_path: pathlib.Path) 
         made.end()
 
 
+@needs_dask
+def test_a_scheduler_that_dies_is_said(program: str, tmp_path: pathlib.Path) -> None:
+    made = Cluster(tmp_path, program)
+    try:
+        made.start_scheduler()
+        made.start_worker()
+        (tmp_path / "slow").touch()
+        run = made.begin("cuts", LESSON, 1)
+        wait_for(tmp_path / "plays")
+        made.running[0].kill()
+        assert ended(run) == (70, b"", b"labask: the cluster of --dask was lost\n")
+    finally:
+        made.end()
+
+
 def test_the_package_that_is_missing_is_named(program: str, monkeypatch: pytest.MonkeyPatch) -> None:
     def none(_: str, package: Optional[str] = None) -> None:
         return None

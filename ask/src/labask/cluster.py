@@ -16,7 +16,7 @@ import socket
 import time
 import warnings
 from dataclasses import dataclass
-from typing import Any, Callable, Dict, Iterable, Iterator, List, Optional, Tuple, TypeVar
+from typing import Any, Callable, Dict, Iterable, Iterator, List, Optional, Sequence, Tuple, TypeVar
 
 from labask.answers import WrongWords
 from labask.playing import PlayingFault
@@ -28,6 +28,7 @@ AHEAD = 4  # batches that are not given yet, for each thread of the workers
 RETRIES = 3  # of a batch that a worker can't begin
 LOOK_SECONDS = 0.003  # between two looks at what is done
 COUNT_SECONDS = 5.0  # between two counts of the workers
+LOST = "the cluster of --dask was lost"
 Item = TypeVar("Item")
 Result = TypeVar("Result")
 
@@ -97,7 +98,8 @@ class Pass:
     def __init__(self, client: Any, function: Callable[[Any], Any], items: Iterable[Any], stops: Callable[[], bool], most: int):
         self.client, self.items, self.stops, self.most = client, iter(items), stops, most
         self.dumps: Callable[[Any], bytes] = distributed("protocol.pickle").dumps
-        self.work = client.submit(same, self.dumps(function), pure=False, retries=RETRIES)
+        with reaching():
+            self.work = client.submit(same, self.dumps(function), pure=False, retries=RETRIES)
         self.completed = distributed().as_completed(with_results=True, raise_errors=False, loop=client.loop)
         self.size, self.sent, self.all_sent = 1, 0, False
         self.threads, self.counted = 1, float("-inf")
@@ -107,7 +109,8 @@ class Pass:
     def has_room(self) -> bool:
         """Whether one more batch is sent by now."""
         if time.monotonic() > self.counted + COUNT_SECONDS:
-            self.threads, self.counted = max(1, sum(self.client.nthreads().values())), time.monotonic()
+            with reaching():
+                self.threads, self.counted = max(1, sum(self.client.nthreads().values())), time.monotonic()
         return len(self.places) + len(self.done) < AHEAD * self.threads
 
     def take(self) -> List[Any]:
@@ -127,11 +130,16 @@ class Pass:
             batch = self.take()
             self.all_sent = not batch
             if batch:
-                future = self.client.submit(do_batch, sources(), self.work, self.dumps(batch), pure=False, retries=RETRIES)
-                self.places[future] = self.sent
-                self.completed.add(future)
-                self.sent += 1
+                self.submit(batch)
         return bool(self.places or self.done)
+
+    def submit(self, batch: Sequence[Any]) -> None:
+        """Sends a batch."""
+        with reaching():
+            future = self.client.submit(do_batch, sources(), self.work, self.dumps(batch), pure=False, retries=RETRIES)
+        self.places[future] = self.sent
+        self.completed.add(future)
+        self.sent += 1
 
     def receive(self) -> None:
         """Takes what is done by now; raises `PlayingFault` where the cluster could not do it."""
@@ -162,6 +170,15 @@ class Pass:
             self.client.cancel([*self.places, self.work])
 
 
+@contextlib.contextmanager
+def reaching() -> Iterator[None]:
+    """Calls on a cluster. Its package has no one class for what goes wrong there, which is a fault of playing here."""
+    try:
+        yield
+    except (Exception, asyncio.CancelledError) as fault:
+        raise PlayingFault(LOST) from fault
+
+
 def value_of(done: Done) -> Any:
     """The value of an item; raises its fault where there is one."""
     if done.fault is not None:
@@ -172,7 +189,7 @@ def value_of(done: Done) -> Any:
 def words_of(future: Any, result: Any) -> str:
     """Why a cluster could not do a batch."""
     if future.status != "error":
-        return "the cluster of --dask was lost"
+        return LOST
     fault = result[1] if isinstance(result, tuple) else result
     if isinstance(fault, PlayingFault):
         return str(fault)
