@@ -45,8 +45,8 @@ class Cluster:
     def start_scheduler(self) -> None:
         """Starts the scheduler, and waits until it says where it is."""
         program = self.folder / "labsys"
-        program.write_text(f'#!/bin/sh\ncase $1 in play) [ ! -e {self.folder}/slow ] || {{ touch {self.folder}/plays; sleep 0.3; }} ;; esac\n'
-                           f'exec {self.program} "$@"\n', encoding="ascii")
+        pause = f"[ ! -e {self.folder}/slow ] || {{ touch {self.folder}/plays; sleep 0.3; }}"
+        program.write_text(f'#!/bin/sh\ncase $1 in play) {pause} ;; esac\nexec {self.program} "$@"\n', encoding="ascii")
         program.chmod(0o755)
         self.start("scheduler", "--port", "0")
         wait_for(self.folder / "scheduler")
@@ -135,7 +135,8 @@ def test_differences_are_found_and_shrunk_alike(cluster: Cluster, program: str, 
 
 
 @needs_dask
-@pytest.mark.parametrize("words", [("who", LESSON), ("orders", RACE), ("test", TOP / "examples" / "hospital.rules")], ids=lambda words: words[0])
+@pytest.mark.parametrize("words", [("who", LESSON), ("orders", RACE), ("test", TOP / "examples" / "hospital.rules")],
+                         ids=lambda words: str(words[0]))
 def test_no_time_gives_what_is_known(cluster: Cluster, words: Tuple[object, ...]) -> None:
     assert cluster.asked(*words, "--time", 0) == alone(*words, "--time", 0)
 

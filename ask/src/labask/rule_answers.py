@@ -133,7 +133,7 @@ def is_kept_apart(subject: Subject, source: bytes, goal: Goal) -> bool:
 
 
 class First:
-    """The place of the first pair with a flow, for all processes of this machine. What is sent to a worker of a cluster is one of its own."""
+    """The place of the first pair with a flow, for all processes of this machine. A worker of a cluster has one of its own."""
 
     def __init__(self, place: int):
         self.shared: Any = multiprocessing.get_context("fork").Value("i", place)
