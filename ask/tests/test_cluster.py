@@ -118,7 +118,7 @@ def cluster_of_two(program: str, tmp_path_factory: pytest.TempPathFactory) -> It
 @needs_dask
 @pytest.mark.parametrize("words", [
     ("orders", RACE, "--orders", 40), ("test", TOP / "examples" / "hospital.rules"), ("cuts", LESSON, 1),
-    ("cuts", KEEPS, "--flow", "/pay/list of may", "1@internal:eng", "--depth", 3), ("who", LESSON), ("lint", LESSON),
+    ("cuts", KEEPS, "--flow", "/pay/list of may", "1@internal:eng", "--depth", 3), ("who", LESSON),
     ("flow", KEEPS, "/pay/*", "label:internal:eng", "--depth", 3)], ids=lambda words: " ".join(map(str, words[::2])))
 def test_a_cluster_answers_as_one_process(cluster: Cluster, words: Tuple[object, ...]) -> None:
     assert cluster.asked(*words) == alone(*words)
@@ -135,7 +135,7 @@ def test_differences_are_found_and_shrunk_alike(cluster: Cluster, program: str, 
 
 
 @needs_dask
-@pytest.mark.parametrize("words", [("who", LESSON), ("orders", RACE), ("test", TOP / "examples" / "hospital.rules")],
+@pytest.mark.parametrize("words", [("who", LESSON), ("test", TOP / "examples" / "hospital.rules")],
                          ids=lambda words: str(words[0]))
 def test_no_time_gives_what_is_known(cluster: Cluster, words: Tuple[object, ...]) -> None:
     assert cluster.asked(*words, "--time", 0) == alone(*words, "--time", 0)
