@@ -22,7 +22,7 @@ Maintainer: {maintainer}
 Installed-Size: {size}
 Depends: libc6 (>= {libc})
 Recommends: python3 (>= 3.9)
-Suggests: python3-rich
+Suggests: python3-rich, python3-distributed
 Section: science
 Priority: optional
 Description: simulated kernel with proved answers

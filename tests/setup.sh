@@ -1,7 +1,8 @@
 #!/bin/sh
 # Installs what tests use and a system may lack, where this may be done: by root, with apt-get. It changes nothing where nothing is
 # missing, and its exit status is 0 in any case: a test that lacks something says so, and is skipped.
-PACKAGES="python3-pytest python3-hypothesis python3-selenium chromium chromium-driver python3-rich mypy strace shellcheck"
+PACKAGES="python3-pytest python3-hypothesis python3-selenium chromium chromium-driver python3-rich python3-dask
+    python3-distributed mypy strace shellcheck"
 
 missing() {
     for package in $PACKAGES; do

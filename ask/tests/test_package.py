@@ -22,11 +22,21 @@ def test_no_module_of_python_is_hidden():
 @knows_its_modules
 @pytest.mark.parametrize("path", MODULES, ids=lambda path: str(path.relative_to(SOURCES)))
 def test_standard_library_alone(path):
-    """Only modules of Python are imported, and `rich`, which need not be there."""
+    """Only modules of Python are imported, and `rich`, which need not be there; `dask` and `distributed` at most in functions."""
     tree = ast.parse(path.read_text(encoding="utf-8"))
     found = {name.name for node in ast.walk(tree) if isinstance(node, ast.Import) for name in node.names}
     found |= {node.module for node in ast.walk(tree) if isinstance(node, ast.ImportFrom) and not node.level}
-    assert {name.partition(".")[0] for name in found} <= {*sys.stdlib_module_names, "labask", "rich"}
+    assert {name.partition(".")[0] for name in found} <= {*sys.stdlib_module_names, "labask", "rich", "dask", "distributed"}
+
+
+@pytest.mark.parametrize("package", ["rich", "dask", "distributed"])
+def test_other_packages_are_imported_where_they_are_used(package):
+    """The module of no question imports a package that need not be there."""
+    told = "import importlib, sys; from labask import main, cluster\n"
+    told += "for each in main.QUESTIONS.values(): importlib.import_module('labask.' + each.module)\n"
+    done = subprocess.run([sys.executable, "-c", f"{told}sys.exit({package!r} in sys.modules)"], env={"PYTHONPATH": str(SOURCES.parent)},
+                          check=False)
+    assert done.returncode == 0
 
 
 @pytest.mark.parametrize("words", [("--version",), ("--labsys", "/none", "--version")], ids=str)

@@ -6,8 +6,8 @@ import pytest
 from support import TOP
 
 SETUP = TOP / "tests" / "setup.sh"
-PACKAGES = ["python3-pytest", "python3-hypothesis", "python3-selenium", "chromium", "chromium-driver", "python3-rich", "mypy", "strace",
-            "shellcheck"]
+PACKAGES = ["python3-pytest", "python3-hypothesis", "python3-selenium", "chromium", "chromium-driver", "python3-rich", "python3-dask",
+            "python3-distributed", "mypy", "strace", "shellcheck"]
 # stand-ins: a package is installed where a file has its name
 DPKG_QUERY = '#!/bin/sh\nfor name do :; done\n[ -e "{0}/installed/$name" ] && printf installed\n'
 APT_GET = """#!/bin/sh

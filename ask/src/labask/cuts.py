@@ -9,7 +9,7 @@ from typing import Any, Dict, Iterator, List, Optional, Sequence, Set, Tuple, Un
 from labask.answers import NOT_ABSENT, PLAYED, Status, WrongWords, table, write_json
 from labask.capability_texts import read_sets
 from labask.command_words import number
-from labask.effort import Effort, add_effort_arguments, effort_of
+from labask.effort import Effort, add_dask_argument, add_effort_arguments, effort_of
 from labask.observing import prefixes
 from labask.playing import Outcome, Played, Player, Reply, Session
 from labask.search.limits import add_limit_arguments
@@ -48,6 +48,7 @@ def add_arguments(parser: argparse.ArgumentParser) -> None:
     parser.add_argument("--apply", metavar="K", type=number, help="write the world with the change in row K of the answer instead")
     add_limit_arguments(parser)
     add_effort_arguments(parser)
+    add_dask_argument(parser)
 
 
 # ---- changes

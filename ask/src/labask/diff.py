@@ -7,7 +7,7 @@ from typing import Any, Dict, Iterator, List, Optional, Sequence, Tuple
 from labask.answers import PLAYED, Status, write_json
 from labask.asking import Asked, explain_all
 from labask.cuts import Renamed, plain
-from labask.effort import Effort, add_effort_arguments, effort_of
+from labask.effort import Effort, add_dask_argument, add_effort_arguments, effort_of
 from labask.flow import Answer as FlowAnswer
 from labask.flow import Goal
 from labask.flow import ask as ask_flow
@@ -42,6 +42,7 @@ def add_arguments(parser: argparse.ArgumentParser) -> None:
     parser.add_argument("--flows", action="store_true", help="ask too which flows from files to processes are new or gone")
     add_limit_arguments(parser)
     add_effort_arguments(parser)
+    add_dask_argument(parser)
 
 
 def names_of(world: World) -> Dict[str, str]:

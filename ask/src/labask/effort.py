@@ -3,6 +3,7 @@
 Ctrl-C ends the work as the end of its time does, so that what is known by then is still answered; a second one ends it at once.
 """
 import argparse
+import importlib
 import os
 import signal
 import sys
@@ -11,10 +12,13 @@ import time
 from collections import deque
 from concurrent.futures import Future, ThreadPoolExecutor
 from dataclasses import dataclass, field
-from typing import Any, Callable, Deque, Iterable, Iterator, Optional, TypeVar
+from typing import TYPE_CHECKING, Any, Callable, Deque, Iterable, Iterator, Optional, Tuple, TypeVar
 
-from labask.command_words import number
+from labask.command_words import named, number
 from labask.terminal import ProgressLine, progress_line
+
+if TYPE_CHECKING:
+    from labask.cluster import Cluster
 
 MOST_JOBS = 1_024
 SHOWN_SECONDS = 0.1  # between two lines of progress
@@ -34,6 +38,11 @@ class Effort:
     stopped: bool = False
     shown_at: Optional[float] = field(default=None, repr=False)
     line: Optional[ProgressLine] = field(default=None, repr=False)
+    cluster: "Optional[Cluster]" = field(default=None, repr=False)
+
+    def __reduce__(self) -> "Tuple[Any, ...]":
+        """What is sent to a worker of a cluster: the seconds that are left, since its clock is another one."""
+        return sent_effort, (None if self.until is None else self.until - time.monotonic(),)
 
     def over(self) -> bool:
         """Whether the work is to stop: its time is over, or Ctrl-C came."""
@@ -48,7 +57,11 @@ class Effort:
         """What a function gives for each item, in their order; as many are at work side by side as there are jobs.
 
         The function waits for plays, so threads suffice. Items are taken only as they are needed, and none where the effort is over.
+        Where there is a cluster, that does the work, and the function and the items are sent to it.
         """
+        if self.cluster is not None:
+            yield from self.cluster.results(function, items, self.stops)
+            return
         pool = ThreadPoolExecutor(self.jobs) if self.jobs > 1 else None
         waiting: "Deque[Future[Result]]" = deque()
         try:
@@ -90,6 +103,11 @@ class Effort:
         signal.signal(signal.SIGINT, signal.default_int_handler)
 
 
+def sent_effort(seconds: Optional[float]) -> Effort:
+    """The effort of a worker of a cluster, which does one thing at a time for so many seconds."""
+    return Effort(1, None if seconds is None else time.monotonic() + seconds)
+
+
 def processors() -> int:
     """How many processors the program may use."""
     return len(os.sched_getaffinity(0)) if hasattr(os, "sched_getaffinity") else os.cpu_count() or 1
@@ -120,6 +138,12 @@ def add_playing_arguments(parser: argparse.ArgumentParser) -> None:
     parser.add_argument("--quiet", action="store_true", help="show no progress on a terminal")
 
 
+def add_dask_argument(parser: argparse.ArgumentParser) -> None:
+    """Adds the option that names a cluster, to a question whose work may be sent to one."""
+    parser.add_argument("--dask", metavar="ADDRESS", type=named, help="play on the cluster of dask.distributed whose scheduler is there, "
+                        "in place of this machine")
+
+
 def add_effort_arguments(parser: argparse.ArgumentParser) -> None:
     """Adds the options that say how much work a question may be."""
     add_playing_arguments(parser)
@@ -134,6 +158,8 @@ def effort_of(arguments: argparse.Namespace) -> Effort:
 def jobs_effort(arguments: argparse.Namespace, until: Optional[float]) -> Effort:
     """The same, until a moment that the question itself gives."""
     effort = Effort(arguments.jobs or processors(), until, arguments.quiet or not sys.stderr.isatty())
+    if getattr(arguments, "dask", None) is not None:
+        effort.cluster = importlib.import_module("labask.cluster").cluster_at(arguments.dask)
     if threading.current_thread() is threading.main_thread() and signal.getsignal(signal.SIGINT) is signal.default_int_handler:
         signal.signal(signal.SIGINT, effort.interrupt)
     return effort

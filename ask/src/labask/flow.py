@@ -9,7 +9,7 @@ from dataclasses import dataclass
 from typing import Any, Callable, Dict, Iterator, List, Optional, Sequence, Tuple, Union
 
 from labask.answers import PLAYED, Status, WrongWords, table, write_json
-from labask.effort import Effort, add_effort_arguments, effort_of
+from labask.effort import Effort, add_dask_argument, add_effort_arguments, effort_of
 from labask.flow_proof import Proof, Proofs, in_the_way
 from labask.kernel.calls import MOST_FILE_BYTES, Call as KernelCall
 from labask.kernel.state import Labels, first_state
@@ -47,6 +47,7 @@ def add_arguments(parser: argparse.ArgumentParser) -> None:
     parser.add_argument("--scripts", action="store_true", help="where there are several pairs, write the script of each")
     add_limit_arguments(parser)
     add_effort_arguments(parser)
+    add_dask_argument(parser)
 
 
 @dataclass(frozen=True)

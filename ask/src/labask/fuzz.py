@@ -8,7 +8,7 @@ from typing import Any, Dict, Iterator, List, Optional, Sequence, Tuple
 
 from labask.answers import Status, WrongWords, table, write_json
 from labask.command_words import named, number
-from labask.effort import Effort, add_playing_arguments, jobs_effort
+from labask.effort import Effort, add_dask_argument, add_playing_arguments, jobs_effort
 from labask.fuzzing.case_text import case_text
 from labask.fuzzing.comparing import Comparer, Difference
 from labask.fuzzing.making import made
@@ -34,6 +34,7 @@ def add_arguments(parser: argparse.ArgumentParser) -> None:
     parser.add_argument("--most", metavar="N", type=number, default=1, help="stop at so many kinds of differences; 1 by default")
     parser.add_argument("--cases", metavar="FOLDER", type=named, help="write each difference there, as a case for tests/run_cases.py")
     add_playing_arguments(parser)
+    add_dask_argument(parser)
 
 
 def calls_of(text: str) -> Tuple[str, ...]:

@@ -6,7 +6,7 @@ from typing import Any, DefaultDict, Dict, FrozenSet, Iterator, List, NamedTuple
 
 from labask.answers import Status, write_json
 from labask.capability_texts import read_sets
-from labask.effort import Effort, add_effort_arguments, effort_of
+from labask.effort import Effort, add_dask_argument, add_effort_arguments, effort_of
 from labask.kernel.state import names_of, read_bound
 from labask.kernel_profile import CAPABILITIES
 from labask.playing import Player
@@ -39,6 +39,7 @@ def add_arguments(parser: argparse.ArgumentParser) -> None:
     """Adds the arguments of the question."""
     parser.add_argument("file", metavar="FILE", help="the world; its script is not played")
     add_effort_arguments(parser)
+    add_dask_argument(parser)
 
 
 def listed(names: FrozenSet[str]) -> str:

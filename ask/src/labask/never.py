@@ -4,7 +4,7 @@ from dataclasses import dataclass
 from typing import Any, Dict, FrozenSet, Iterator, List, Sequence, Tuple
 
 from labask.answers import Status, show_table, write_json
-from labask.effort import Effort, add_effort_arguments, effort_of
+from labask.effort import Effort, add_dask_argument, add_effort_arguments, effort_of
 from labask.exec_formula import in_order
 from labask.kernel_profile import CAPABILITIES
 from labask.playing import Player
@@ -20,6 +20,7 @@ def add_arguments(parser: argparse.ArgumentParser) -> None:
     """Adds the arguments of the question."""
     parser.add_argument("file", metavar="FILE", help="the world; its script is not played")
     add_effort_arguments(parser)
+    add_dask_argument(parser)
 
 
 @dataclass(frozen=True)

@@ -10,7 +10,7 @@ from typing import Any, Dict, Iterator, List, Optional, Sequence, Tuple
 
 from labask.answers import Status, table, write_json
 from labask.command_words import number
-from labask.effort import Effort, add_effort_arguments, effort_of
+from labask.effort import Effort, add_dask_argument, add_effort_arguments, effort_of
 from labask.interleaving import Broken, Findings, Interleaving, Move, Node, Written
 from labask.order_rules import Rule, RuleReader
 from labask.playing import Player, PlayingFault
@@ -29,6 +29,7 @@ def add_arguments(parser: argparse.ArgumentParser) -> None:
     parser.add_argument("--orders", metavar="N", type=number, default=ORDERS,
                         help=f"the most orders that labsys plays to have every step; {ORDERS} by default")
     add_effort_arguments(parser)
+    add_dask_argument(parser)
 
 
 @dataclass(frozen=True)
@@ -69,11 +70,27 @@ class Tested:
     all_steps: int
 
 
+@dataclass(frozen=True)
+class OrderPlayer:
+    """Has labsys play orders. It is all that is sent to a worker of a cluster, with the orders."""
+    world: World
+    player: Player
+
+    def play(self, order: Tuple[Sequence[str], Sequence[str]]) -> Tuple[Call, ...]:
+        """The lines of an order as labsys plays them; raises `PlayingFault` where it answers otherwise than the model, as is due."""
+        lines, all_due = order
+        replies = self.player.play_accepted(self.world.with_script(lines)).replies
+        for line, reply, due in zip(lines, replies, all_due):
+            if reply.text != due:
+                raise PlayingFault(f"labsys answers otherwise than labask's model: {line}: {reply.text}, not {due}")
+        return tuple(Call(short(line), short(reply.text)) for line, reply in zip(lines, replies))
+
+
 class Orders:
     """Asks about all orders of a script, and has labsys play what is found."""
 
     def __init__(self, world: World, player: Player, effort: Effort):
-        self.world, self.player, self.effort = world, player, effort
+        self.world, self.effort, self.order_player = world, effort, OrderPlayer(world, player)
         self.orders = Interleaving(world, player.play_accepted(world.text))
 
     def rules(self, texts: Sequence[str]) -> List[Rule]:
@@ -84,11 +101,7 @@ class Orders:
 
     def played(self, written: Written) -> Tuple[Call, ...]:
         """An order as labsys plays it; raises `PlayingFault` where it answers otherwise than the model."""
-        replies = self.player.play_accepted(self.world.with_script(written.lines)).replies
-        for line, reply, due in zip(written.lines, replies, written.due):
-            if reply.text != due:
-                raise PlayingFault(f"labsys answers otherwise than labask's model: {line}: {reply.text}, not {due}")
-        return tuple(Call(short(line), short(reply.text)) for line, reply in zip(written.lines, replies))
+        return self.order_player.play((written.lines, written.due))
 
     def differing(self, findings: Findings) -> Iterator[Differing]:
         """The calls that have more than one reply, each of which labsys plays."""
@@ -124,7 +137,8 @@ class Orders:
             chosen.append(order)
         done = steps = 0
         written = (self.orders.written(order) for order, _ in chosen)
-        for (_, new), _ in zip(chosen, self.effort.results(self.played, written)):
+        lines = ((each.lines, each.due) for each in written)
+        for (_, new), _ in zip(chosen, self.effort.results(self.order_player.play, lines)):
             done, steps = done + 1, steps + new
             self.effort.progress(f"orders: {done} of {len(chosen)} played")
         self.effort.clear()

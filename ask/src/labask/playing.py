@@ -92,6 +92,9 @@ class Refused(Exception):
         self.text = text
         self.refusal = refusal
 
+    def __reduce__(self) -> Tuple[Any, ...]:
+        return Refused, (self.text, self.refusal)
+
 
 def read_reply(number: int, words: Sequence[Word]) -> Reply:
     """The reply that the words of a line have."""
@@ -150,6 +153,10 @@ class Player:
         self.plays = 0
         self._running: "Set[subprocess.Popen[bytes]]" = set()
         self._lock = threading.Lock()
+
+    def __reduce__(self) -> Tuple[Any, ...]:
+        """What is sent to a worker of a cluster: the words of the command, and none of the runs."""
+        return sent_player, (self.program,)
 
     def start(self, words: Sequence[str], given: Any, out: Any, messages: Any) -> "subprocess.Popen[bytes]":
         """Starts a command of `labsys` with these standard descriptors."""
@@ -243,6 +250,11 @@ class Player:
             raise Refused(trail, Played(status, out, b"", messages).refusal)
         records: List[Dict[str, Any]] = json.loads("[" + ",".join(out.decode("ascii").split("\n")[:-2]) + "]")
         return records
+
+
+def sent_player(program: Sequence[str]) -> Player:
+    """The player of a worker of a cluster: of the program that LABSYS names there, or else of the same path."""
+    return Player([os.environ.get("LABSYS") or program[0], *program[1:]])
 
 
 def pieces_of(trail: bytes, most: int = MAX_INPUT) -> Iterator[bytes]:

@@ -132,6 +132,27 @@ def is_kept_apart(subject: Subject, source: bytes, goal: Goal) -> bool:
     return label in subject.proved.uncrossed and not subject.dominates(label, subject.world.objects_by_path[source].label)
 
 
+class First:
+    """The place of the first pair with a flow, for all processes of this machine. A worker of a cluster has one of its own."""
+
+    def __init__(self, place: int):
+        self.shared: Any = multiprocessing.get_context("fork").Value("i", place)
+
+    def __reduce__(self) -> Tuple[Any, ...]:
+        return First, (self.place,)
+
+    @property
+    def place(self) -> int:
+        """The place by now."""
+        found: int = self.shared.value
+        return found
+
+    def found(self, place: int) -> None:
+        """A flow was found at a place."""
+        with self.shared.get_lock():
+            self.shared.value = min(self.place, place)
+
+
 class FlowDecider:
     """Decides a rule on flows in rounds: whether TO gets bytes of any FROM; then pair by pair up to a few calls, and up to all.
 
@@ -149,7 +170,7 @@ class FlowDecider:
         self.proved, self.pairs = len(pairs) - len(left), unlike_pairs(world, left)
         self.depths = sorted({min(FEW_CALLS, limits.depth), limits.depth})
         self.merged = len(self.pairs) > 1
-        self.first: Any = multiprocessing.get_context("fork").Value("i", len(left))  # the place of the first pair with a flow
+        self.first = First(len(left))
         self.undecided: List[Verdict] = []
         if not self.pairs:
             case.verdict = Verdict(Holding.HOLDS, Basis.PROOF, f"no script crosses the labels of TO; {counted(self.count, 'pair')}")
@@ -176,13 +197,12 @@ class FlowDecider:
 
     def decide_pair(self, place: int, pair: Tuple[bytes, Goal], depth: int) -> Verdict:
         """The verdict about a pair by scripts of so many calls."""
-        if place > self.first.value:
+        if place > self.first.place:
             return STOPPED
         flow = Flow(self.case.subject.world, self.case.subject.player, *pair, self.rule.exceptions, self.effort)
         found, words = flow.find(depth, self.limits.states), f"{path_word(pair[0])} to {goal_text(pair[1])}"
         if found is not None:
-            with self.first.get_lock():
-                self.first.value = min(self.first.value, place)
+            self.first.found(place)
             why = f"bytes get from {words} by {counted(len(found.calls), 'call')}"
             return Verdict(Holding.BROKEN, Basis.PLAY, why, found.calls, found.world)
         if flow.result.ending is Ending.NEVER:

@@ -9,7 +9,7 @@ from typing import Dict, Iterator, List, Sequence
 from labask import check
 from labask.answers import Status, WrongWords, write_json
 from labask.command_words import named
-from labask.effort import add_effort_arguments, effort_of
+from labask.effort import add_dask_argument, add_effort_arguments, effort_of
 from labask.playing import Player, Refused
 from labask.rule_answers import Case, Holding, Subject, decide_all
 from labask.rule_reports import as_json, junit, report, tap
@@ -30,6 +30,7 @@ def add_arguments(parser: argparse.ArgumentParser) -> None:
                         "this directory")
     add_limit_arguments(parser)
     add_effort_arguments(parser)
+    add_dask_argument(parser)
 
 
 class BadInput(Exception):

@@ -13,7 +13,7 @@ from dataclasses import dataclass, field
 from typing import Any, Dict, Iterable, Iterator, List, NamedTuple, Optional, Sequence, Set, Tuple
 
 from labask.answers import PLAYED, Status, show_table, write_json
-from labask.effort import Effort, add_effort_arguments, effort_of
+from labask.effort import Effort, add_dask_argument, add_effort_arguments, effort_of
 from labask.kernel_profile import MAX_DESCRIPTION_NUMBER, MAX_INPUT, MAX_LINE, MAX_PATH, MAX_PATH_NAMES, MAX_PROCESS_NUMBER
 from labask.never_passed import never_lines, never_passed
 from labask.playing import Outcome, Player, Played, read_reply
@@ -120,6 +120,7 @@ def add_arguments(parser: argparse.ArgumentParser) -> None:
     parser.add_argument("--calls", action="store_true", help="with --ever, write the calls of each answer")
     add_limit_arguments(parser)
     add_effort_arguments(parser)
+    add_dask_argument(parser)
 
 
 @functools.lru_cache(maxsize=65_536)

@@ -24,6 +24,9 @@ def _do(item: Any) -> Any:
 def results(effort: Effort, function: Callable[[Item], Result], items: Sequence[Item]) -> Iterator[Tuple[Item, Result]]:
     """What a function gives for each item, in their order; none are given from when the effort is over."""
     global _work
+    if effort.cluster is not None and len(items) > 1:
+        yield from zip(items, effort.cluster.results(function, items, effort.stops, 1))
+        return
     if effort.jobs <= 1 or len(items) <= 1:
         for item in items:
             if effort.stops():
