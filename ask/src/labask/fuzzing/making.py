@@ -1,27 +1,41 @@
 """Random worlds with scripts, each from its seed: of all calls, kinds, modes, labels, grades, ids and capability sets.
 
-A script is made while the model of the kernel plays it, so that its calls name what is there: paths, descriptors, processes.
+A script is made while the model of the kernel plays it, so that its calls name what is there: paths, descriptors, processes. Many
+calls follow on the one before: they show what it changed, or use what it gave.
 """
 import random
 from dataclasses import dataclass, field
 from typing import Any, Callable, Dict, Iterator, List, Optional, Sequence, Tuple
 
+from labask.fuzzing.following import Following
 from labask.kernel.calls import Call, Path, play
 from labask.kernel.state import Caps, Kind, Label, Labels, Number, State, bits_of, caps_text, first_state
 from labask.kernel.texts import call_text
 from labask.signatures import CALLS, CAPABILITIES
 from labask.worlds import Policy, read_world
 
-SCRIPT = 120  # calls of a script
+LENGTHS = (40, 80, 120, 120)  # calls of a script
+FOLLOWED = 0.5  # how many calls are followed by one that has to do with them
 LEVELS, CATEGORIES, GRADES = ("low", "mid", "high"), ("a", "b"), ("poor", "fine")
 NAMES = ("a", "b", "c", "d")
 IDS = (0, 10, 20)
 OPEN_MODES, MODES = (0o777, 0o777, 0o666, 0o4777, 0o2777), (0o755, 0o700, 0o644, 0o4755, 0o2755, 0o6777, 0o070, 0o007, 0)
-ENDS_MADE = 8  # one in so many calls that end a process is made, so that scripts go on
-MANY_BYTES = 2_000
+ENDS_MADE = 8  # one in so many calls of `exit` is made, so that scripts go on
+SIGNALS = (*("0",) * 8, "TERM", "KILL")
+KINDS = (("dir", "dir", "file", "file", "file", "fifo"),) * 3 + (("dir", "fifo", "fifo", "file"), ("dir", "file"), ("dir", "dir", "dir", "file"))
+MANY_BYTES = 2_000  # of some writes; three of them fill a pipe
+ONE_POWER = 3  # sets of a single capability
 FEW_CALLS = (3, 12)  # of some scripts, which come further with them
+ALL_SHARE, FEW_SHARE = 0.4, 0.3  # how many scripts have all calls, and a few; the others have those of a theme
+THEMES = tuple(text.split() for text in (
+    "open close read write lseek dup pipe mkfifo fstat fork", "open close write read stat exit", "open close read write dup pipe fork exit mac_set_fd mac_set_proc",
+    "open mkdir rmdir link unlink rename readdir stat chdir mkfifo", "open write chmod chown stat cap_get_file cap_set_file exec umask",
+    "fork exec exit wait kill getppid getids setuid setgid cap_set_proc cap_get_proc", "cap_get_fd cap_set_fd cap_set_file cap_get_file open "
+    "cap_set_proc write exec", "mac_set_file mac_get_file mac_set_fd mac_get_fd mac_set_proc open read write lseek rename kill fork",
+))
 FREQUENT = ("open", "open", "open", "read", "write", "exec", "fork", "rename", "link")
-ENDS = ("exit", "kill")
+ENDS = ("exit",)
+CHANGING = ("exec", "setuid", "mac_set_proc")  # calls that change who may end the caller
 MAKING = {"mkdir": 0, "mkfifo": 0, "link": 1, "rename": 1}  # calls that make a name, and the place of its path
 
 
@@ -48,6 +62,8 @@ class Temper:
 
     def bits(self) -> int:
         """A set of capabilities."""
+        if self.powers == ONE_POWER:
+            return bits_of([self.draw.choice(CAPABILITIES)])
         share = (0.0, 0.25, 0.9)[self.powers]
         return bits_of([name for name in CAPABILITIES if self.draw.random() < share])
 
@@ -59,7 +75,7 @@ class Temper:
 
     def file_caps(self) -> Caps:
         """The sets of a file: the flag is on or off."""
-        permitted, inheritable = self.bits(), self.bits()
+        permitted, inheritable = self.draw.choice(((self.bits(), self.bits()), (self.bits(), 0), (0, self.bits())))
         return Caps(self.draw.choice((0, permitted | inheritable)), permitted, inheritable)
 
 
@@ -74,7 +90,7 @@ class WorldMaker:
         draw = self.draw
         policy = Policy(LEVELS[:draw.randint(1, 3)], CATEGORIES[:draw.randint(0, 2)], GRADES if draw.random() < 0.3 else ())
         labels = Labels(policy)
-        temper = Temper(draw, policy, draw.random() < 0.5, draw.random() < 0.6, draw.choice((0, 1, 1, 2)))
+        temper = Temper(draw, policy, draw.random() < 0.5, draw.random() < 0.6, draw.choice((0, 1, 1, 2, ONE_POWER)))
         bound = draw.choice(["all", "all", "none", ",".join(sorted(draw.sample(CAPABILITIES, 9)))])
         self.lines += ["world 2", " ".join(("levels", *policy.levels)), " ".join(("categories", *policy.categories))]
         self.lines += [" ".join(("grades", *policy.grades))] if policy.grades else []
@@ -92,14 +108,14 @@ class WorldMaker:
 
     def add_objects(self, temper: Temper, labels: Labels) -> None:
         """Adds lines of objects below the root."""
-        directories, taken = [("", labels.bottom)], set()
-        for _ in range(self.draw.randint(2, 9)):
+        directories, taken, kinds = [("", labels.bottom)], set(), self.draw.choice(KINDS)
+        for _ in range(self.draw.choice((2, 3, self.draw.randint(2, 9)))):
             parent, above = self.draw.choice(directories)
             path, label = f"{parent}/{self.draw.choice(NAMES)}", temper.label(above, labels)
             if path in taken or path.count("/") > 4:
                 continue
             taken.add(path)
-            kind = self.draw.choice(("dir", "dir", "file", "file", "file", "fifo"))
+            kind = self.draw.choice(kinds)
             line = f"{kind} {path} {temper.mode():04o} {self.ids()} {labels.text(label)}"
             if kind == "file":
                 line += f' "{self.draw.choice(("", "x", "some bytes"))}"'
@@ -117,15 +133,32 @@ class ScriptMaker:
     labels: Labels
     calls: Sequence[str]
     dead: List[Number] = field(default_factory=list)
+    following: Optional[Following] = None
 
     def line(self) -> str:
         """The next line."""
         who = self.process()
         call = self.call(who)
+        if self.following is not None and self.draw.random() < FOLLOWED:
+            who, call = self.follow(self.following) or (who, call)
         before = self.state.processes
-        self.state, _ = play(self.state, who, call)
+        self.state, reply = play(self.state, who, call)
+        self.following = Following(who, call, reply, before[who].parent if who in before else None)
         self.dead = [*self.dead, *(each for each in before if each not in self.state.processes)][-4:]
         return f"{self.labels.number_text(who)} {call_text(call, self.labels)}"
+
+    def follow(self, last: Following) -> Optional[Tuple[Number, Call]]:
+        """A call that follows on the last one, with its process, or None where there is none of these calls."""
+        names = [name for name in last.names if name in self.calls]
+        if not names:
+            return None
+        who, name = last.caller(self.draw), self.draw.choice(names)
+        if who not in self.state.processes:
+            return None
+        arguments = self.arguments(name, who)
+        if name == "kill" and last.call.name in CHANGING:
+            return self.draw.choice(list(self.state.processes)), Call(name, (who, *arguments[1:]))
+        return who, Call(name, (*(last.argument(word, made) for word, made in zip(CALLS[name].split()[:1], arguments)), *arguments[1:]))
 
     def process(self) -> Number:
         """A process, which mostly lives."""
@@ -140,15 +173,18 @@ class ScriptMaker:
         name = self.draw.choice([*self.calls, *names])
         if name in ENDS and not set(self.calls) <= set(ENDS) and self.draw.randrange(ENDS_MADE):
             return self.call(who)
-        words = CALLS[name].split()
+        return Call(name, tuple(self.arguments(name, who)))
+
+    def arguments(self, name: str, who: Number) -> List[Any]:
+        """The arguments of a call."""
         if name == "open":
-            return Call(name, self.open_words(who))
+            return list(self.open_words(who))
         if name == "umask":
-            return Call(name, (self.draw.choice((0, 0o022, 0o077, 0o777)),))
-        arguments = [self.argument(word, who) for word in words]
+            return [self.draw.choice((0, 0o022, 0o077, 0o777))]
+        arguments = [self.argument(word, who) for word in CALLS[name].split()]
         if name in MAKING and self.draw.random() < 0.7:
             arguments[MAKING[name]] = self.new_path(who)
-        return Call(name, tuple(arguments))
+        return arguments
 
     def open_words(self, who: Number) -> Tuple[Any, ...]:
         """The arguments of `open`."""
@@ -163,16 +199,21 @@ class ScriptMaker:
         makers: Dict[str, Callable[[], Any]] = {
             "PATH": lambda: self.path(who), "FD": lambda: self.descriptor(who), "N": lambda: draw.choice((0, 1, 4, 100)),
             "BYTES": self.content, "OFFSET": lambda: draw.choice((0, 0, 1, 3, -1, -3, 20)),
-            "set|cur|end": lambda: draw.choice(("set", "cur", "end")), "MODE": self.mode, "UID": lambda: draw.choice(IDS),
-            "GID": lambda: draw.choice(IDS), "CAPS": lambda: self.caps(who), "LABEL": lambda: self.label(who),
+            "set|cur|end": lambda: draw.choice(("set", "cur", "end")), "MODE": self.mode, "UID": lambda: draw.choice(self.ids(who)[:3] + IDS),
+            "GID": lambda: draw.choice(self.ids(who)[3:6] + IDS), "CAPS": lambda: self.caps(who), "LABEL": lambda: self.label(who),
             "PID": lambda: draw.choice(list(self.state.processes) + self.dead + [who]), "0|TERM|KILL": lambda: draw.choice(
-                ("0", "0", "TERM", "KILL")), "on|off": lambda: draw.choice(("on", "off")),
+                SIGNALS), "on|off": lambda: draw.choice(("on", "off")),
         }
         return makers[word]()
 
+    def ids(self, who: Number) -> Tuple[Any, ...]:
+        """The ids of a process: real, effective and saved user, then group."""
+        process = self.state.processes.get(who)
+        return tuple(process.ids) if process else IDS * 2
+
     def content(self) -> bytes:
         """Bytes that are written, now and then so many that files and pipes get full."""
-        return b"z" * MANY_BYTES if self.draw.random() < 0.05 else self.draw.choice((b"", b"y", b"other bytes"))
+        return b"z" * MANY_BYTES if self.draw.random() < 0.1 else self.draw.choice((b"", b"y", b"other bytes"))
 
     def mode(self) -> int:
         """A mode."""
@@ -187,11 +228,12 @@ class ScriptMaker:
     def caps(self, who: Number) -> Caps:
         """Sets, some of them those that the process has."""
         process = self.state.processes.get(who)
-        held = process.caps.permitted if process else 0
+        held, passed = (process.caps.permitted, process.caps.inheritable) if process else (0, 0)
         some = held & self.temper.bits()
         full = Caps(held, held, held)
         return self.draw.choice((self.temper.file_caps(), self.temper.process_caps(), full, Caps(some, some, 0), Caps(0, some, some),
-                                 Caps(some, held, 0), Caps(0, 0, held)))
+                                 Caps(some, held, 0), Caps(0, 0, held), Caps(held, some, 0), Caps(some, held, passed),
+                                 Caps(0, some, passed | some), Caps(0, some, self.temper.bits())))
 
     def label(self, who: Number) -> Label:
         """A label: of a process or of an object, or a random one."""
@@ -205,11 +247,15 @@ class ScriptMaker:
         path = self.path(who, Kind.DIRECTORY)
         return path._replace(names=(*path.names[:7], self.draw.choice(NAMES).encode("ascii")))
 
+    def absolute_share(self, directory: Number) -> float:
+        """How many paths of a process in a directory are absolute: few where it was removed."""
+        return 1.0 if directory == self.state.root else 0.7 if self.state.spots.get(directory) else 0.2
+
     def path(self, who: Number, kind: Optional[Kind] = None) -> Path:
         """A path: of what is there, of a new name, or of nothing."""
         draw, names = self.draw, []
         process = self.state.processes.get(who)
-        absolute = process is None or process.cwd == self.state.root or draw.random() < 0.7
+        absolute = process is None or draw.random() < self.absolute_share(process.cwd)
         here = self.state.root if absolute or process is None else process.cwd
         while draw.random() < 0.85:
             entries = sorted(self.state.names.get(here, {}).items())
@@ -226,16 +272,25 @@ class ScriptMaker:
         return Path(absolute, tuple(names[:8]))
 
 
-def made(seed: str, calls: Sequence[str], length: int = SCRIPT) -> bytes:
+def made(seed: str, calls: Sequence[str]) -> bytes:
     """The world of a seed with a script of these calls."""
     draw = random.Random(seed)
     head, temper = WorldMaker(draw).make()
     world = read_world(head)
     labels = Labels(world.policy)
-    if draw.random() < 0.4 and len(calls) > FEW_CALLS[1]:
-        calls = draw.sample(calls, draw.randint(*FEW_CALLS))
-    maker = ScriptMaker(draw, temper, first_state(world, labels), labels, calls)
-    return world.with_script(list(lines_of(maker, length)))
+    maker = ScriptMaker(draw, temper, first_state(world, labels), labels, some_calls(draw, calls))
+    return world.with_script(list(lines_of(maker, draw.choice(LENGTHS))))
+
+
+def some_calls(draw: random.Random, calls: Sequence[str]) -> Sequence[str]:
+    """The calls of a script: all of them, a few, or those of a theme."""
+    choice = draw.random()
+    if choice < ALL_SHARE or len(calls) <= FEW_CALLS[1]:
+        return calls
+    if choice < ALL_SHARE + FEW_SHARE:
+        return draw.sample(calls, draw.randint(*FEW_CALLS))
+    theme = draw.choice(THEMES)
+    return [name for name in calls if name in theme] or calls
 
 
 def lines_of(maker: ScriptMaker, length: int) -> Iterator[str]:
