@@ -135,7 +135,7 @@ def is_kept_apart(subject: Subject, source: bytes, goal: Goal) -> bool:
 class FlowDecider:
     """Decides a rule on flows in rounds: whether TO gets bytes of any FROM; then pair by pair up to a few calls, and up to all.
 
-    Behind the first pair that has a flow no other one is asked about.
+    Where a pair has a flow, the others are asked for shorter scripts alone: the shortest is shown, and of the first pair that has one.
     """
 
     def __init__(self, case: Case, rule: NeverFlow, limits: Limits, effort: Effort):
@@ -149,7 +149,8 @@ class FlowDecider:
         self.proved, self.pairs = len(pairs) - len(left), unlike_pairs(world, left)
         self.depths = sorted({min(FEW_CALLS, limits.depth), limits.depth})
         self.merged = len(self.pairs) > 1
-        self.first: Any = multiprocessing.get_context("fork").Value("i", len(left))  # the place of the first pair with a flow
+        # the calls of the shortest script, and the place of its pair
+        self.best: Any = multiprocessing.get_context("fork").Array("i", (limits.depth + 1, len(left)))
         self.undecided: List[Verdict] = []
         if not self.pairs:
             case.verdict = Verdict(Holding.HOLDS, Basis.PROOF, f"no script crosses the labels of TO; {counted(self.count, 'pair')}")
@@ -175,19 +176,26 @@ class FlowDecider:
         return Verdict(Holding.HOLDS, Basis.MODEL, "") if never else STOPPED
 
     def decide_pair(self, place: int, pair: Tuple[bytes, Goal], depth: int) -> Verdict:
-        """The verdict about a pair by scripts of so many calls."""
-        if place > self.first.value:
+        """The verdict about a pair by scripts of so many calls, or fewer where a script is known."""
+        depth = self.most_calls(place, depth)
+        if depth < 1:
             return STOPPED
         flow = Flow(self.case.subject.world, self.case.subject.player, *pair, self.rule.exceptions, self.effort)
         found, words = flow.find(depth, self.limits.states), f"{path_word(pair[0])} to {goal_text(pair[1])}"
         if found is not None:
-            with self.first.get_lock():
-                self.first.value = min(self.first.value, place)
+            with self.best.get_lock():
+                self.best[:] = min(tuple(self.best), (len(found.calls), place))
             why = f"bytes get from {words} by {counted(len(found.calls), 'call')}"
             return Verdict(Holding.BROKEN, Basis.PLAY, why, found.calls, found.world)
         if flow.result.ending is Ending.NEVER:
             return Verdict(Holding.HOLDS, Basis.MODEL, "")
         return Verdict(Holding.UNDECIDED, Basis.NONE, f"the search from {words} stopped at the {flow.result.ending.value}")
+
+    def most_calls(self, place: int, depth: int) -> int:
+        """How many calls a script of a pair may have to be shown."""
+        with self.best.get_lock():
+            calls, best_place = self.best
+        return min(depth, calls if place < best_place else calls - 1)
 
     def take(self, found: Sequence[Verdict]) -> None:
         """Takes the verdicts of a round, in the order of its tasks; fewer where it was stopped."""
@@ -196,7 +204,7 @@ class FlowDecider:
             self.pairs, self.merged = [pair for pair in self.pairs if pair[1] not in held], False
         else:
             self.depths.pop(0)
-            broken = next((each for each in found if each.holding is Holding.BROKEN), None)
+            broken = min((each for each in found if each.holding is Holding.BROKEN), key=lambda each: len(each.calls), default=None)
             left = [place for place in range(len(self.pairs)) if place >= len(found) or found[place].holding is not Holding.HOLDS]
             self.undecided = [found[place] for place in left if place < len(found)]
             self.pairs = [self.pairs[place] for place in left]
