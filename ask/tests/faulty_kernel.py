@@ -24,11 +24,12 @@ MODULES = ("rules", "calls")
 COPIED = (*MODULES, "texts")
 SECONDS = 1.0  # within which a text is played
 LIMITS = ("MOST_", "may_number", "may_describe", "free_descriptors")  # no short script comes to these
-ALIKE = (  # changes that no short script shows: of limits, and of what comes to the same
+ALIKE = (  # changes that the output of no short script shows
     "call_write: ENODEV for 'EFBIG'", "call_link: ENODEV for 'EMLINK'", "call_fork: ENODEV for 'EAGAIN'",
     "__init__: without super().__init__(error)",
     "call_setuid: another attribute in ids.euid",  # where only the effective id is another one, both ways set it alone
     "call_setgid: another attribute in ids.egid",
+    "call_aud_switch: without asked.change(audited=to == 'on')", "call_aud_switch: other operator in to == 'on'",  # no trail is written
 )
 OTHER = {ast.Lt: ast.LtE, ast.LtE: ast.Lt, ast.Gt: ast.GtE, ast.GtE: ast.Gt, ast.Eq: ast.NotEq, ast.NotEq: ast.Eq, ast.Is: ast.IsNot,
          ast.IsNot: ast.Is, ast.In: ast.NotIn, ast.NotIn: ast.In}
