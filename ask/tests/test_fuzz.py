@@ -28,7 +28,7 @@ from labask.signatures import CALLS
 from labask.worlds import read_world
 
 LESSON = TOP / "examples" / "lesson.txt"
-WORLDS = 800  # at which a fault that was not found would be given up
+WORLDS = 2_000  # at which a fault that was not found would be given up
 MOST_CALLS = 6
 FEW = 8  # faults that are looked for, where it is not said how many
 ALL = random.Random("faults").sample(range(len(all_faults())), len(all_faults()))

@@ -77,3 +77,18 @@ def names_to(state: State, directory: Number) -> Optional[Tuple[bytes, ...]]:
         directory, name = spots[0]
         names.insert(0, name)
     return tuple(names)
+
+
+def unmoved(draft: Draft, at: int) -> Iterator[Draft]:
+    """Drafts without a call that renames or links; either the calls before it or those behind it name its other path then."""
+    words = draft.script[at].split(" ")
+    if words[1] in ("rename", "link"):
+        before, after = draft.script[:at], draft.script[at + 1:]
+        yield replace(draft, script=(*(with_path(line, words[2], words[3]) for line in before), *after))
+        yield replace(draft, script=(*before, *(with_path(line, words[3], words[2]) for line in after)))
+
+
+def with_path(line: str, old: str, new: str) -> str:
+    """A line with another path in place of one, also where that leads on."""
+    tag, call, *words = line.split(" ")
+    return " ".join([tag, call, *(new + word[len(old):] if f"{word}/".startswith(f"{old}/") else word for word in words)])

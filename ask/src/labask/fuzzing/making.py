@@ -207,7 +207,7 @@ class ScriptMaker:
         if name == "umask":
             return [self.draw.choice((0, 0o022, 0o077, 0o777))]
         arguments = [self.argument(word, who) for word in CALLS[name].split()]
-        if name in MAKING and self.draw.random() < 0.7:
+        if name in MAKING and self.draw.random() < (0.4 if name == "rename" else 0.7):
             arguments[MAKING[name]] = self.new_path(who)
         return arguments
 

@@ -8,7 +8,7 @@ from typing import Callable, Iterator, Optional, Sequence, Set, Tuple
 
 from labask.capability_texts import read_sets
 from labask.effort import Effort
-from labask.fuzzing.beginning import absolute, begun
+from labask.fuzzing.beginning import absolute, begun, unmoved
 from labask.fuzzing.comparing import Comparer, Difference
 from labask.fuzzing.draft import Draft
 from labask.fuzzing.renumbering import only
@@ -88,7 +88,7 @@ class Shrinker:
                 break
         draft = self.kept(draft, absolute(draft))
         for at in range(len(draft.script) - 1, -1, -1):
-            draft = self.kept(draft, begun(draft, [at]))
+            draft = self.kept(draft, begun(draft, [at]), *unmoved(draft, at))
         return draft
 
     def fewer_things(self, draft: Draft) -> Draft:
