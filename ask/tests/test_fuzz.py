@@ -50,7 +50,7 @@ def kernel(program: str, tmp_path: pathlib.Path) -> Kernel:
 
 def fuzz(kernel: pathlib.Path, *words: str) -> Tuple[int, str]:
     """The status and the answer of a short search."""
-    status, out, messages = labask("fuzz", "--against", kernel, "--worlds", "12", *words)
+    status, out, messages = labask("fuzz", "--against", kernel, "--worlds", "24", *words)
     assert messages == ""
     return status, out
 
@@ -59,7 +59,7 @@ def fuzz(kernel: pathlib.Path, *words: str) -> Tuple[int, str]:
 
 def test_worlds_of_every_seed_are_accepted(player: Player) -> None:
     called = set()
-    for seed in range(20):
+    for seed in range(30):
         text = made(f"test {seed}", tuple(CALLS))
         assert text == made(f"test {seed}", tuple(CALLS))
         replies = player.play_accepted(text).replies
@@ -70,7 +70,7 @@ def test_worlds_of_every_seed_are_accepted(player: Player) -> None:
 
 def test_the_same_program_differs_in_nothing(kernel: Kernel) -> None:
     status, out = fuzz(kernel('labsys "$@"'))
-    assert status == Status.NO and "Never reached:" in out and out.count("12 worlds were played by both") == 1
+    assert status == Status.NO and "Never reached:" in out and out.count("24 worlds were played by both") == 1
 
 
 CHANGES = [
