@@ -194,7 +194,7 @@ class FlowDecider:
     def most_calls(self, place: int, depth: int) -> int:
         """How many calls a script of a pair may have to be shown."""
         with self.best.get_lock():
-            calls, best_place = self.best
+            calls, best_place = map(int, self.best)
         return min(depth, calls if place < best_place else calls - 1)
 
     def take(self, found: Sequence[Verdict]) -> None:
