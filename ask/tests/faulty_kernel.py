@@ -5,14 +5,32 @@ model, one place each: a check that is left out, a condition that is turned roun
 of `play FILE` it writes all of them.
 """
 import ast
-import importlib.util
+import importlib
 import pathlib
+import signal
 import sys
-from typing import Callable, Iterator, List, NamedTuple
+import types
+from typing import Any, Callable, Dict, Iterator, List, NamedTuple, Optional
 
 SOURCES = pathlib.Path(__file__).resolve().parent.parent / "src"
+sys.path.insert(0, str(SOURCES))
+
+from labask.fuzzing.comparing import Driver  # noqa: E402  pylint: disable=wrong-import-position
+from labask.kernel.state import Labels, State, caps_text, first_state  # noqa: E402  pylint: disable=wrong-import-position
+from labask.playing import Played  # noqa: E402  pylint: disable=wrong-import-position
+from labask.worlds import quoted, read_world  # noqa: E402  pylint: disable=wrong-import-position
+
 MODULES = ("rules", "calls")
-LIMITS = ("MOST_", "may_number", "may_describe", "free_descriptors")  # no script comes to these
+COPIED = (*MODULES, "texts")
+SECONDS = 1.0  # within which a text is played
+LIMITS = ("MOST_", "may_number", "may_describe", "free_descriptors")  # no short script comes to these
+ALIKE = (  # changes that the output of no short script shows
+    "call_write: ENODEV for 'EFBIG'", "call_link: ENODEV for 'EMLINK'", "call_fork: ENODEV for 'EAGAIN'",
+    "__init__: without super().__init__(error)",
+    "call_setuid: another attribute in ids.euid",  # where only the effective id is another one, both ways set it alone
+    "call_setgid: another attribute in ids.egid",
+    "call_aud_switch: without asked.change(audited=to == 'on')", "call_aud_switch: other operator in to == 'on'",  # no trail is written
+)
 OTHER = {ast.Lt: ast.LtE, ast.LtE: ast.Lt, ast.Gt: ast.GtE, ast.GtE: ast.Gt, ast.Eq: ast.NotEq, ast.NotEq: ast.Eq, ast.Is: ast.IsNot,
          ast.IsNot: ast.Is, ast.In: ast.NotIn, ast.NotIn: ast.In}
 BITS = {"READ": "WRITE", "WRITE": "EXECUTE", "EXECUTE": "READ", "SET_USER": "SET_GROUP", "SET_GROUP": "SET_USER"}
@@ -28,9 +46,14 @@ class Change(NamedTuple):
     make: Callable[[], None]
 
     @property
+    def plain(self) -> str:
+        """What it does."""
+        return self.words.format(ast.unparse(self.place))
+
+    @property
     def text(self) -> str:
         """What it does, with the place."""
-        return f"line {self.place.lineno}: {self.words.format(ast.unparse(self.place))}"  # type: ignore[attr-defined]
+        return f"line {self.place.lineno}: {self.plain}"  # type: ignore[attr-defined]
 
 
 def negated(node: ast.AST, name: str) -> None:
@@ -82,55 +105,104 @@ def all_faults() -> List[Fault]:
     """The changes of all functions, but those about limits."""
     found = []
     for name in MODULES:
-        tree = ast.parse((SOURCES / "labask" / "kernel" / f"{name}.py").read_text("utf-8"))
+        tree = source_tree(name)
         for function in ast.walk(tree):
             if isinstance(function, ast.FunctionDef) and not function.name.startswith(LIMITS):
                 found += [Fault(name, function.name, tree, change) for change in changes_of(function)
-                          if not is_about_a_limit(change.place)]
+                          if not is_about_a_limit(change.place) and f"{function.name}: {change.plain}" not in ALIKE]
     return found
 
 
-def load_with_fault(number: int) -> None:
-    """Loads the module that a fault changes, in place of the one of the package."""
-    fault = all_faults()[number]
-    fault.change.make()
-    full = f"labask.kernel.{fault.module}"
-    spec = importlib.util.find_spec(full)
-    assert spec is not None
-    module = importlib.util.module_from_spec(spec)
-    sys.modules[full] = module
-    exec(compile(ast.fix_missing_locations(fault.tree), full, "exec"), module.__dict__)  # pylint: disable=exec-used
+def source_tree(name: str) -> ast.Module:
+    """The tree of a module of the model."""
+    return ast.parse((SOURCES / "labask" / "kernel" / f"{name}.py").read_text("utf-8"))
 
 
-def play_input() -> None:
-    """Plays standard input, and writes the output."""
-    from labask.kernel.calls import play
-    from labask.kernel.state import Labels, caps_text, first_state
-    from labask.kernel.texts import read_call, reply_text
-    from labask.worlds import quoted, read_world
+def copies_of(trees: Dict[str, ast.Module]) -> Dict[str, Any]:
+    """Modules of the model, each made of its tree; they import one another, and the modules of the package stay as they are."""
+    package = importlib.import_module("labask.kernel")
+    kept = {name: importlib.import_module(f"labask.kernel.{name}") for name in trees}
+    copies: Dict[str, Any] = {}
+    try:
+        for name, tree in trees.items():
+            copies[name] = types.ModuleType(f"labask.kernel.{name}")
+            sys.modules[f"labask.kernel.{name}"] = copies[name]
+            setattr(package, name, copies[name])
+            exec(compile(ast.fix_missing_locations(tree), name, "exec"), copies[name].__dict__)  # pylint: disable=exec-used
+    finally:
+        for name, module in kept.items():
+            sys.modules[f"labask.kernel.{name}"] = module
+            setattr(package, name, module)
+    return copies
 
-    world = read_world(sys.stdin.buffer.read())
-    labels = Labels(world.policy)
-    state = first_state(world, labels)
-    for line in world.script:
-        state, reply = play(state, labels.number(line.tag), read_call(line.call, line.arguments, labels))
-        print(line.tag, line.call, reply_text(reply, labels))
+
+def end_play(*_: object) -> None:
+    """Ends a play, as a handler of SIGALRM."""
+    raise TimeoutError
+
+
+class FaultyKernel(Driver):
+    """A copy of the model with a fault, or with none where the number is None; it plays texts as a program does, in this process."""
+
+    def __init__(self, number: Optional[int]):
+        super().__init__(())
+        trees = {name: source_tree(name) for name in COPIED}
+        if number is not None:
+            fault = all_faults()[number]
+            fault.change.make()
+            trees[fault.module] = fault.tree
+        copies = copies_of(trees)
+        object.__setattr__(self, "call", copies["calls"].play)
+        object.__setattr__(self, "texts", copies["texts"])
+
+    def play(self, text: bytes) -> Played:
+        """What the copy writes of a text. One that has not ended in time is ended, and a fault of Python ends it with status 1."""
+        lines: List[str] = []
+        before = signal.signal(signal.SIGALRM, end_play)
+        signal.setitimer(signal.ITIMER_REAL, SECONDS)
+        try:
+            for line in self.lines(text):
+                lines.append(line)
+            status, said = 0, b""
+        except TimeoutError:
+            status, said = 1, b"not ended in time"
+        except Exception:  # pylint: disable=broad-exception-caught
+            status, said = 1, b""
+        finally:
+            signal.setitimer(signal.ITIMER_REAL, 0)
+            signal.signal(signal.SIGALRM, before)
+        return Played(status, "".join(f"{line}\n" for line in lines).encode("ascii"), b"", said)
+
+    def lines(self, text: bytes) -> Iterator[str]:
+        """The lines of the output."""
+        world = read_world(text)
+        labels = Labels(world.policy)
+        state = first_state(world, labels)
+        for line in world.script:
+            call = self.texts.read_call(line.call, line.arguments, labels)  # type: ignore[attr-defined]
+            state, reply = self.call(state, labels.number(line.tag), call)  # type: ignore[attr-defined]
+            yield f"{line.tag} {line.call} {self.texts.reply_text(reply, labels)}"  # type: ignore[attr-defined]
+        yield from end_lines(state, labels)
+        yield f"done {len(world.script)}"
+
+
+def end_lines(state: State, labels: Labels) -> Iterator[str]:
+    """The lines of the processes that live at the end."""
     order = sorted(state.processes, key=lambda each: (each.label.level, each.label.categories, -each.label.grade, each.n))
     for number in order:
         process = state.processes[number]
-        print("end", labels.number_text(number), labels.text(process.label), quoted(caps_text(process.caps).encode("ascii")))
-    print(f"done {len(world.script)}")
+        yield f"end {labels.number_text(number)} {labels.text(process.label)} {quoted(caps_text(process.caps).encode('ascii')).strip()}"
 
 
 def main() -> None:
     """Plays an input with a fault, or lists the faults."""
-    sys.path.insert(0, str(SOURCES))
     if sys.argv[2] == "list":
         print("\n".join(f"{number} {fault.text}" for number, fault in enumerate(all_faults())))
         return
-    if sys.argv[1] != "none":
-        load_with_fault(int(sys.argv[1]))
-    play_input()
+    played = FaultyKernel(None if sys.argv[1] == "none" else int(sys.argv[1])).play(sys.stdin.buffer.read())
+    sys.stdout.buffer.write(played.out)
+    sys.stdout.flush()
+    sys.exit(played.status)
 
 
 if __name__ == "__main__":

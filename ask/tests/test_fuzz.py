@@ -1,6 +1,6 @@
 """Tests `fuzz`, `shrink` and `case`: by programs that are labsys with something changed, and by faults in a copy of the model.
 
-`LABASK_FAULTS` names how many faults of the model are looked for, drawn from all; without it five are.
+`LABASK_FAULTS` names how many faults of the model are looked for, drawn from all; without it a few are. Worlds are counted, and no time is.
 """
 import json
 import os
@@ -10,7 +10,7 @@ import sys
 from typing import Callable, List, Tuple
 
 import pytest
-from faulty_kernel import all_faults
+from faulty_kernel import FaultyKernel, all_faults
 from run_cases import read_case, run_case
 from support import HERE, TOP, labask
 
@@ -18,19 +18,21 @@ from labask.answers import Status
 from labask.effort import Effort
 from labask.fuzz import Fuzzing, Work
 from labask.fuzzing import comparing
-from labask.fuzzing.comparing import Comparer, Driver, Terms
+from labask.fuzzing.beginning import absolute, begun
+from labask.fuzzing.comparing import Comparer, Terms
+from labask.fuzzing.draft import Draft, Renaming
 from labask.fuzzing.making import made
-from labask.fuzzing.shrinking import Renaming
+from labask.fuzzing.renumbering import only
 from labask.playing import Player
 from labask.signatures import CALLS
 from labask.worlds import read_world
 
 LESSON = TOP / "examples" / "lesson.txt"
-WORLDS = 300  # at which a fault that was not found would be given up
+WORLDS = 2_000  # at which a fault that was not found would be given up
 MOST_CALLS = 6
-SHORT = (287, 2, 51, 233, 220)  # faults that are found within seconds
+FEW = 8  # faults that are looked for, where it is not said how many
 ALL = random.Random("faults").sample(range(len(all_faults())), len(all_faults()))
-FAULTS = ALL[:int(os.environ["LABASK_FAULTS"])] if "LABASK_FAULTS" in os.environ else list(SHORT)
+FAULTS = ALL[:int(os.environ.get("LABASK_FAULTS", FEW))]
 Kernel = Callable[[str], pathlib.Path]
 
 
@@ -48,7 +50,7 @@ def kernel(program: str, tmp_path: pathlib.Path) -> Kernel:
 
 def fuzz(kernel: pathlib.Path, *words: str) -> Tuple[int, str]:
     """The status and the answer of a short search."""
-    status, out, messages = labask("fuzz", "--against", kernel, "--worlds", "12", *words)
+    status, out, messages = labask("fuzz", "--against", kernel, "--worlds", "24", *words)
     assert messages == ""
     return status, out
 
@@ -57,7 +59,7 @@ def fuzz(kernel: pathlib.Path, *words: str) -> Tuple[int, str]:
 
 def test_worlds_of_every_seed_are_accepted(player: Player) -> None:
     called = set()
-    for seed in range(20):
+    for seed in range(30):
         text = made(f"test {seed}", tuple(CALLS))
         assert text == made(f"test {seed}", tuple(CALLS))
         replies = player.play_accepted(text).replies
@@ -68,7 +70,7 @@ def test_worlds_of_every_seed_are_accepted(player: Player) -> None:
 
 def test_the_same_program_differs_in_nothing(kernel: Kernel) -> None:
     status, out = fuzz(kernel('labsys "$@"'))
-    assert status == Status.NO and "Never reached:" in out and out.count("12 worlds were played by both") == 1
+    assert status == Status.NO and "Never reached:" in out and out.count("24 worlds were played by both") == 1
 
 
 CHANGES = [
@@ -174,27 +176,64 @@ def test_processes_are_renamed() -> None:
         "1@a fork", "2@a getpid", "1@a kill 2@a TERM", "1@b kill 1@a 0", "4@b getpid"]
 
 
+HEAD = """world 2
+levels low high
+categories
+bound all
+dir / 0777 0 0 low
+file /a 0666 0 0 low "x"
+dir /d 0777 0 0 low
+proc low 0 0 - "all=ep"
+script
+"""
+
+
+def draft_of(*lines: str) -> Draft:
+    """A draft of a small world."""
+    return Draft.of(read_world((HEAD + "\n".join(lines) + "\n").encode()))
+
+
+def test_lines_alone_get_the_numbers_that_they_have_then(player: Player) -> None:
+    draft = draft_of("1@low open /a r", "1@low open /a rw", "1@low fork", "1@low fork", "3@low read 1 5", "1@low kill 3@low TERM",
+                     "1@low write 1 y")
+    alone = only(draft, [1, 3, 4, 5, 6])
+    assert alone.script == ("1@low open /a rw", "1@low fork", "2@low read 0 5", "1@low kill 2@low TERM", '1@low write 0 "y"')
+    assert [reply.text for reply in player.play_accepted(alone.text).replies] == ["ok 0", "ok 2@low", 'ok "x"', "ok", "ok 1"]
+
+
+def test_a_world_begins_later(player: Player) -> None:
+    draft = draft_of("1@low mkdir /d/e 0700", "1@low chmod /a 0600", "1@low fork", "2@low mac_set_proc high", "1@low mac_set_file /a high",
+                     "2@low mac_get_proc", "1@low rename /a /d/e/b", "2@low stat /a", '1@low cap_set_proc "="')
+    later = begun(draft, range(7))
+    assert later is not None and later.script == ("1@high stat /a", '1@low cap_set_proc "="') or later.script == (
+        "2@low stat /a", '1@low cap_set_proc "="')
+    assert [each.path for each in later.objects] == [b"/", b"/d", b"/d/e", b"/d/e/b"] and later.objects[-1].label == "high"
+    assert [(each.label, each.caps) for each in later.processes] == [("low", "all=ep"), ("high", "all=ep")]
+    assert player.play(later.text).status == Status.NO and begun(draft_of("1@low rmdir /a", "1@low getpid"), [0]) is None
+
+
+def test_paths_get_absolute(player: Player) -> None:
+    draft = absolute(draft_of("1@low chdir /d", "1@low mkdir e 0700", "1@low chdir e", "1@low rmdir /d/e", "1@low stat ."))
+    assert draft.script == ("1@low chdir /d", "1@low mkdir /d/e 0700", "1@low chdir /d/e", "1@low rmdir /d/e", "1@low stat .")
+    assert player.play_accepted(draft.text).replies
+
+
 # ---- faults of a copy of the model
 
-@pytest.fixture
-def bytecode(tmp_path_factory: pytest.TempPathFactory, monkeypatch: pytest.MonkeyPatch) -> None:
-    """Has the programs in Python that are started keep their bytecode in a folder of their own."""
-    monkeypatch.delenv("PYTHONDONTWRITEBYTECODE", raising=False)
-    monkeypatch.setenv("PYTHONPYCACHEPREFIX", str(tmp_path_factory.getbasetemp() / "bytecode"))
-
-
-@pytest.mark.usefixtures("bytecode")
 @pytest.mark.parametrize("fault", FAULTS)
 def test_a_fault_of_the_model_is_found(fault: int, player: Player) -> None:
-    driver = Driver([sys.executable, "-S", str(HERE / "faulty_kernel.py"), str(fault)])
-    fuzzing = Fuzzing(Work(Comparer(player, driver, Terms(trail=False)), 1, tuple(CALLS)), Effort())
+    fuzzing = Fuzzing(Work(Comparer(player, FaultyKernel(fault), Terms(trail=False)), 1, tuple(CALLS)), Effort())
     results = fuzzing.differences(iter(range(1, WORLDS + 1)), 1)
     assert results, f"not found: {all_faults()[fault].text}"
     found = fuzzing.work.shrink(results[0])
     assert found.calls <= MOST_CALLS, f"{all_faults()[fault].text}: {found.text.decode()}"
 
 
-@pytest.mark.usefixtures("bytecode")
-def test_the_model_without_a_fault_differs_in_nothing(program: str) -> None:
+def test_the_model_without_a_fault_differs_in_nothing(player: Player) -> None:
+    fuzzing = Fuzzing(Work(Comparer(player, FaultyKernel(None), Terms(trail=False)), 1, tuple(CALLS)), Effort())
+    assert not fuzzing.differences(iter(range(1, 31)), 1)
+
+
+def test_the_faulty_program(program: str) -> None:
     words = f"{sys.executable} -S {HERE / 'faulty_kernel.py'} none"
-    assert labask("fuzz", "--against", words, "--out-only", "--worlds", "6")[0] == Status.NO
+    assert labask("fuzz", "--against", words, "--out-only", "--worlds", "2")[0] == Status.NO

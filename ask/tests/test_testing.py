@@ -23,6 +23,10 @@ WORLD = (HEAD + 'dir /d 0755 0 0 low\nfile /d/board 0666 9 9 low "welcome"\nfile
 READS_ALL = WORLD.replace('proc low 11 12 - "="', 'proc low 11 12 - "cap_mac_read,cap_dac_read_search=p"')
 
 
+# a process gets bytes of its own /a by a chmod before, and those of /z without one
+SEVERAL = HEAD + 'file /a 0000 11 11 low "a"\nfile /z 0644 9 9 low "z"\nproc low 11 11 - "="\nscript\n'
+
+
 def asked(folder: pathlib.Path, rules: str, world: str = WORLD, *words: object) -> Tuple[int, Dict[str, Dict[str, Any]], str]:
     """The status, the answers by their rules, and the messages."""
     (folder / "world.txt").write_text(world)
@@ -145,6 +149,26 @@ def test_tap_and_junit(tmp_path: pathlib.Path) -> None:
 def test_one_job_answers_as_many_do(tmp_path: pathlib.Path) -> None:
     rules = "\n".join(rule for rule, *_ in BROKEN[1:4])
     assert asked(tmp_path, rules, READS_ALL, "--jobs", 1) == asked(tmp_path, rules, READS_ALL, "--jobs", 3)
+
+
+def test_an_undecided_rule_is_skipped(tmp_path: pathlib.Path) -> None:
+    world = HEAD + 'proc low 9 9 - "cap_kill=ep"\nscript\n'  # it has nobody to kill but its children
+    status, found, _ = asked(tmp_path, "never exercise cap_kill", world)
+    assert (status, found["never exercise cap_kill"]["answer"], found["never exercise cap_kill"]["calls"]) == (4, "undecided", [])
+    report = tmp_path / "report.xml"
+    status, out, _ = labask("test", tmp_path / "rules", "--tap", "--junit", report)
+    assert status == 4 and out.splitlines()[2].startswith("ok 1 - ") and out.splitlines()[2].endswith(" # SKIP undecided")
+    root = ElementTree.parse(report).getroot()
+    assert (root.get("failures"), root.get("errors"), root.get("skipped")) == ("0", "0", "1")
+    assert root.find("./testsuite/testcase/skipped") is not None
+    assert labask("test", tmp_path / "rules")[1].count(" undecided: ") == 1
+
+
+def test_the_shortest_script_of_all_pairs_is_shown(tmp_path: pathlib.Path) -> None:
+    for jobs in (1, 3):
+        status, found, _ = asked(tmp_path, "never flow label:low -> 1@low", SEVERAL, "--jobs", jobs)
+        calls = found["never flow label:low -> 1@low"]["calls"]
+        assert status == 3 and [call["text"] for call in calls] == ["1@low open /z r", "1@low read 0 1"], calls
 
 
 @settings(max_examples=30)

@@ -132,31 +132,40 @@ def is_kept_apart(subject: Subject, source: bytes, goal: Goal) -> bool:
     return label in subject.proved.uncrossed and not subject.dominates(label, subject.world.objects_by_path[source].label)
 
 
-class First:
-    """The place of the first pair with a flow, for all processes of this machine. A worker of a cluster has one of its own."""
+class Shortest:
+    """The calls of the shortest script so far and the place of its pair, for all processes of this machine.
 
-    def __init__(self, place: int):
-        self.shared: Any = multiprocessing.get_context("fork").Value("i", place)
+    A worker of a cluster has a copy of its own.
+    """
+
+    def __init__(self, calls: int, place: int):
+        self.shared: Any = multiprocessing.get_context("fork").Array("i", (calls, place))
 
     def __reduce__(self) -> Tuple[Any, ...]:
-        return First, (self.place,)
+        return Shortest, self.known
 
     @property
-    def place(self) -> int:
-        """The place by now."""
-        found: int = self.shared.value
-        return found
-
-    def found(self, place: int) -> None:
-        """A flow was found at a place."""
+    def known(self) -> Tuple[int, int]:
+        """The calls and the place by now."""
         with self.shared.get_lock():
-            self.shared.value = min(self.place, place)
+            calls, place = map(int, self.shared)
+        return calls, place
+
+    def found(self, calls: int, place: int) -> None:
+        """A script of so many calls was found for the pair at a place."""
+        with self.shared.get_lock():
+            self.shared[:] = min(tuple(self.shared), (calls, place))
+
+    def most_calls(self, place: int, depth: int) -> int:
+        """How many calls a script of a pair may have to be shown, where it may have so many at most."""
+        calls, best_place = self.known
+        return min(depth, calls if place < best_place else calls - 1)
 
 
 class FlowDecider:
     """Decides a rule on flows in rounds: whether TO gets bytes of any FROM; then pair by pair up to a few calls, and up to all.
 
-    Behind the first pair that has a flow no other one is asked about.
+    Where a pair has a flow, the others are asked for shorter scripts alone: the shortest is shown, and of the first pair that has one.
     """
 
     def __init__(self, case: Case, rule: NeverFlow, limits: Limits, effort: Effort):
@@ -170,7 +179,7 @@ class FlowDecider:
         self.proved, self.pairs = len(pairs) - len(left), unlike_pairs(world, left)
         self.depths = sorted({min(FEW_CALLS, limits.depth), limits.depth})
         self.merged = len(self.pairs) > 1
-        self.first = First(len(left))
+        self.shortest = Shortest(limits.depth + 1, len(left))
         self.undecided: List[Verdict] = []
         if not self.pairs:
             case.verdict = Verdict(Holding.HOLDS, Basis.PROOF, f"no script crosses the labels of TO; {counted(self.count, 'pair')}")
@@ -196,13 +205,14 @@ class FlowDecider:
         return Verdict(Holding.HOLDS, Basis.MODEL, "") if never else STOPPED
 
     def decide_pair(self, place: int, pair: Tuple[bytes, Goal], depth: int) -> Verdict:
-        """The verdict about a pair by scripts of so many calls."""
-        if place > self.first.place:
+        """The verdict about a pair by scripts of so many calls, or fewer where a script is known."""
+        depth = self.shortest.most_calls(place, depth)
+        if depth < 1:
             return STOPPED
         flow = Flow(self.case.subject.world, self.case.subject.player, *pair, self.rule.exceptions, self.effort)
         found, words = flow.find(depth, self.limits.states), f"{path_word(pair[0])} to {goal_text(pair[1])}"
         if found is not None:
-            self.first.found(place)
+            self.shortest.found(len(found.calls), place)
             why = f"bytes get from {words} by {counted(len(found.calls), 'call')}"
             return Verdict(Holding.BROKEN, Basis.PLAY, why, found.calls, found.world)
         if flow.result.ending is Ending.NEVER:
@@ -216,7 +226,7 @@ class FlowDecider:
             self.pairs, self.merged = [pair for pair in self.pairs if pair[1] not in held], False
         else:
             self.depths.pop(0)
-            broken = next((each for each in found if each.holding is Holding.BROKEN), None)
+            broken = min((each for each in found if each.holding is Holding.BROKEN), key=lambda each: len(each.calls), default=None)
             left = [place for place in range(len(self.pairs)) if place >= len(found) or found[place].holding is not Holding.HOLDS]
             self.undecided = [found[place] for place in left if place < len(found)]
             self.pairs = [self.pairs[place] for place in left]

@@ -57,13 +57,13 @@ def report(cases: Sequence[Case]) -> Iterator[str]:
 # ---- TAP
 
 def tap(cases: Sequence[Case]) -> Iterator[str]:
-    """The lines of the answer as TAP of version 14: a rule that is undecided is not ok."""
+    """The lines of the answer as TAP of version 14: a rule that is undecided is skipped."""
     yield "TAP version 14"
     yield f"1..{len(cases)}"
     for number, case in enumerate(cases, 1):
-        holds = case.verdict.holding is Holding.HOLDS
+        broken, skipped = case.verdict.holding is Holding.BROKEN, case.verdict.holding is Holding.UNDECIDED
         text = re.sub(r"([\\#])", r"\\\1", f"{name_of(case)} {case.subject.file} {case.rule.text}")
-        yield f"{'ok' if holds else 'not ok'} {number} - {text}"
+        yield f"{'not ok' if broken else 'ok'} {number} - {text}" + (" # SKIP undecided" if skipped else "")
         yield "  ---"
         yield from (f"  {key}: {json.dumps(value)}" for key, value in tap_values(case).items())
         yield "  ..."
@@ -85,7 +85,7 @@ def xml_text(text: str) -> str:
 
 
 def junit(cases: Sequence[Case]) -> bytes:
-    """The answer as JUnit XML: a suite for each file; a broken rule is a failure, and an undecided one an error."""
+    """The answer as JUnit XML: a suite for each file; a broken rule is a failure, and an undecided one is skipped."""
     root = ElementTree.Element("testsuites", {"name": "labask test", **junit_counts(cases)})
     for file in dict.fromkeys(case.file for case in cases):
         group = [case for case in cases if case.file == file]
@@ -99,8 +99,8 @@ def junit(cases: Sequence[Case]) -> bytes:
 
 def junit_counts(cases: Sequence[Case]) -> Dict[str, str]:
     """The attributes that count cases."""
-    failures, errors = (sum(case.verdict.holding is each for case in cases) for each in (Holding.BROKEN, Holding.UNDECIDED))
-    return {"tests": str(len(cases)), "failures": str(failures), "errors": str(errors)}
+    failures, skipped = (sum(case.verdict.holding is each for case in cases) for each in (Holding.BROKEN, Holding.UNDECIDED))
+    return {"tests": str(len(cases)), "failures": str(failures), "errors": "0", "skipped": str(skipped)}
 
 
 def add_case(suite: ElementTree.Element, case: Case) -> None:
@@ -110,8 +110,10 @@ def add_case(suite: ElementTree.Element, case: Case) -> None:
     if case.verdict.holding is Holding.HOLDS:
         ElementTree.SubElement(found, "system-out").text = f"by {case.verdict.basis.value}: {xml_text(case.verdict.why)}"
         return
-    kind = "failure" if case.verdict.holding is Holding.BROKEN else "error"
-    fault = ElementTree.SubElement(found, kind, type=case.verdict.holding.value, message=xml_text(case.verdict.why))
+    if case.verdict.holding is Holding.UNDECIDED:
+        ElementTree.SubElement(found, "skipped", message=xml_text(f"undecided: {case.verdict.why}"))
+        return
+    fault = ElementTree.SubElement(found, "failure", type=case.verdict.holding.value, message=xml_text(case.verdict.why))
     fault.text = xml_text("\n".join([*call_lines(case, ""), "", case.verdict.world.decode("latin-1")])) if case.verdict.calls else None
 
 

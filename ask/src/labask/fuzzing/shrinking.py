@@ -4,87 +4,18 @@ A change is kept where the programs differ in the same kind of way. So what is l
 """
 import dataclasses
 from dataclasses import dataclass, field, replace
-from typing import Callable, Dict, Iterator, List, Optional, Sequence, Set, Tuple
+from typing import Callable, Iterator, Optional, Sequence, Set, Tuple
 
 from labask.capability_texts import read_sets
 from labask.effort import Effort
+from labask.fuzzing.beginning import absolute, begun, unmoved
 from labask.fuzzing.comparing import Comparer, Difference
-from labask.worlds import Kind, Policy, World, WorldObject, WorldProcess, read_world
+from labask.fuzzing.draft import Draft
+from labask.fuzzing.renumbering import only
+from labask.worlds import Kind, WorldObject, WorldProcess, read_world
 
-MOST_PLAYS = 400
+MOST_PLAYS = 1_000
 LATE_PLAYS = 40  # as many of them counts one whose program had to be ended
-
-
-@dataclass(frozen=True)
-class Draft:
-    """A world with its script, of which parts are taken away."""
-    policy: Policy
-    bound: str
-    objects: Tuple[WorldObject, ...]
-    processes: Tuple[WorldProcess, ...]
-    script: Tuple[str, ...]
-
-    @classmethod
-    def of(cls, world: World) -> "Draft":
-        """That of a world, with a line for each call of a utility."""
-        script = tuple(line.single(number) for number, line in world.lines_by_call.items())
-        return cls(world.policy, world.bound, world.objects, world.processes, script)
-
-    @property
-    def text(self) -> bytes:
-        """The text of the world with its script."""
-        lines = ["world 2", " ".join(("levels", *self.policy.levels)), " ".join(("categories", *self.policy.categories))]
-        lines += [" ".join(("grades", *self.policy.grades))] if self.policy.grades else []
-        things = [each.written.decode("ascii") for each in self.objects] + [each.written.decode("ascii") for each in self.processes]
-        return ("\n".join([*lines, f"bound {self.bound}", *things, "script", *self.script]) + "\n").encode("latin-1")
-
-    @property
-    def bottom(self) -> str:
-        """The lowest label."""
-        return self.policy.levels[0]
-
-    def without_level(self, directory: bytes) -> "Draft":
-        """Without a directory: what is in it stands in the directory above, also in the script."""
-        prefix, above = directory + b"/", directory.rpartition(b"/")[0] + b"/"
-        moved = (replace(each, path=above + each.path[len(prefix):]) if each.path.startswith(prefix) else each
-                 for each in self.objects if each.path != directory)
-        old, new = prefix.decode("latin-1"), above.decode("latin-1")
-        script = (" ".join(new + word[len(old):] if word.startswith(old) else word for word in line.split(" ")) for line in self.script)
-        return replace(self, objects=tuple(moved), script=tuple(script))
-
-    def with_processes(self, new: Sequence[Optional[WorldProcess]]) -> "Draft":
-        """With other processes at the places of those that there are, or none; the script has the numbers that they get."""
-        names = Renaming(self.processes, new)
-        return replace(self, processes=tuple(each for each in new if each is not None), script=tuple(map(names.line, self.script)))
-
-
-class Renaming:
-    """The numbers of processes where others stand at their places. A child keeps its place behind those of the world."""
-
-    def __init__(self, old: Sequence[WorldProcess], new: Sequence[Optional[WorldProcess]]):
-        self.tags: Dict[str, str] = {}
-        self.before: Dict[str, int] = {}
-        self.after: Dict[str, int] = {}
-        for one, other in zip(old, new):
-            self.before[one.label] = self.before.get(one.label, 0) + 1
-            if other is not None:
-                self.after[other.label] = self.after.get(other.label, 0) + 1
-                self.tags[f"{self.before[one.label]}@{one.label}"] = f"{self.after[other.label]}@{other.label}"
-
-    def tag(self, tag: str) -> str:
-        """The number of a process."""
-        number, at, label = tag.partition("@")
-        if tag in self.tags or not at or not number.isdigit() or int(number) <= self.before.get(label, 0):
-            return self.tags.get(tag, tag)
-        return f"{max(1, int(number) - self.before.get(label, 0) + self.after.get(label, 0))}@{label}"
-
-    def line(self, line: str) -> str:
-        """A line of the script."""
-        words = line.split(" ")
-        words[0] = self.tag(words[0])
-        if words[1] == "kill":
-            words[2] = self.tag(words[2])
-        return " ".join(words)
 
 
 @dataclass
@@ -104,7 +35,7 @@ class Shrinker:
             return text, difference
         while draft != before and self.goes_on():
             before = draft
-            for change in (self.fewer_calls, self.fewer_things, self.plainer):
+            for change in (self.fewer_calls, self.later, self.fewer_things, self.plainer):
                 draft = change(draft)
         return draft.text, self.difference
 
@@ -145,8 +76,19 @@ class Shrinker:
     def without_pieces(self, draft: Draft, size: int) -> Draft:
         """Without those pieces of so many calls that may go, the last ones first."""
         for at in range(len(draft.script), 0, -size):
-            fewer = replace(draft, script=draft.script[:max(0, at - size)] + draft.script[at:])
-            draft = fewer if self.differs(fewer) else draft
+            lines = [*range(max(0, at - size)), *range(at, len(draft.script))]
+            draft = self.kept(draft, only(draft, lines), replace(draft, script=tuple(draft.script[line] for line in lines)))
+        return draft
+
+    def later(self, draft: Draft) -> Draft:
+        """With a world that begins later, where calls of the script were done already, and with absolute paths."""
+        for count in range(len(draft.script) - 1, 0, -1):
+            if (later := self.kept(draft, begun(draft, range(count)))) != draft:
+                draft = later
+                break
+        draft = self.kept(draft, absolute(draft))
+        for at in range(len(draft.script) - 1, -1, -1):
+            draft = self.kept(draft, begun(draft, [at]), *unmoved(draft, at))
         return draft
 
     def fewer_things(self, draft: Draft) -> Draft:
@@ -176,9 +118,9 @@ class Shrinker:
             draft = self.kept(draft, other)
         return draft
 
-    def kept(self, draft: Draft, other: Draft) -> Draft:
-        """The other one where it is another, and the programs differ on it as they did."""
-        return other if other != draft and self.differs(other) else draft
+    def kept(self, draft: Draft, *others: Optional[Draft]) -> Draft:
+        """The first of the others which is another, and on which the programs differ as they did."""
+        return next((other for other in others if other is not None and other != draft and self.differs(other)), draft)
 
 
 def plain_objects(draft: Draft) -> Iterator[Callable[[WorldObject], WorldObject]]:
