@@ -28,6 +28,7 @@ _labask() {
     lint) options="--jobs --dask --time --quiet" ;;
     label) options="--lattice" ;;
     shell) options="--why" ;;
+    watch) options="--page --rules --times --jobs" ;;
     fmt) options="--check" ;;
     fuzz) options="--against --map --no-place --out-only --seconds --worlds --seed --calls --most --cases --jobs --dask --quiet" ;;
     shrink) options="--against --map --no-place --out-only --case --jobs --time --quiet" ;;
@@ -41,7 +42,7 @@ _labask() {
     --*) return ;; # its value, which may be the name of a file
     esac
     if [ -z "$question" ]; then
-        mapfile -t COMPREPLY < <(compgen -W "check who why flow never cuts orders test diff lint label shell fmt fuzz shrink case page serve world trace $options" -- "$word")
+        mapfile -t COMPREPLY < <(compgen -W "check who why flow never cuts orders test diff lint label shell watch fmt fuzz shrink case page serve world trace $options" -- "$word")
     elif [[ $word = -* ]]; then
         mapfile -t COMPREPLY < <(compgen -W "$options --json --labsys --help" -- "$word")
     elif [ "$question" = world ]; then

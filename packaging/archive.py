@@ -8,7 +8,8 @@ from typing import Dict, Iterator
 
 from origin import PROGRAM, TOP
 
-DOCUMENTS = ("README.md", "CHANGELOG.md", "LICENSE", "docs/*.*", "examples/*.*", "examples/programs/*.*", "completion/*", "editor/*.vim")
+DOCUMENTS = ("README.md", "CHANGELOG.md", "LICENSE", "docs/*.*", "examples/*.*", "examples/programs/*.*", "examples/lesson/*.*",
+             "examples/lesson/answers/*.*", "completion/*", "editor/*.vim")
 LABASK = ("ask/labask", "ask/src/labask/**/*.py", "ask/src/labask/*.css", "ask/src/labask/*.js", "ask/src/labask/py.typed")
 EXECUTABLE = {"labsys", "ask/labask"}
 SUMS = "SHA256SUMS"

@@ -3,13 +3,16 @@ import contextlib
 import io
 import os
 import pathlib
+import pty
+import select
+import subprocess
 import sys
 from typing import Tuple
 
 import pytest
 from hypothesis import given, settings
 from hypothesis import strategies as st
-from support import TOP, labask
+from support import LABASK, TOP, labask
 
 from labask.playing import Player
 from labask.shell import Shell
@@ -98,3 +101,28 @@ def test_any_line_has_an_answer(lines: "list[str]", player: Player, tmp_path_fac
 
 def test_words_that_name_no_session() -> None:
     assert labask("shell", "-")[0] == labask("shell", WORLD, "--json")[0] == labask("shell", "/none")[0] == 1
+
+
+def read_terminal(descriptor: int, due: str) -> str:
+    """What is written to a terminal, up to a text that is due, or where nothing more comes."""
+    out = ""
+    while due not in out and select.select([descriptor], [], [], 60)[0]:
+        out += os.read(descriptor, 4096).decode()
+    return out
+
+
+def test_tab_completes_on_a_terminal() -> None:
+    pytest.importorskip("readline")
+    terminal, other = pty.openpty()
+    command = [sys.executable, str(LABASK), "shell", str(WORLD)]
+    with subprocess.Popen(command, stdin=other, stdout=other, stderr=other, env={**os.environ, "TERM": "dumb"}, start_new_session=True) as run:
+        os.close(other)
+        try:
+            assert read_terminal(terminal, "labask> ").endswith("labask> ")
+            os.write(terminal, b"1@p\t ope\t /ti\t r\n")
+            assert "1@public open /timetable r" in read_terminal(terminal, "1: ok 0")
+            os.write(terminal, b"quit\n")
+            assert run.wait(timeout=60) == 0
+        finally:
+            run.kill()
+            os.close(terminal)

@@ -57,6 +57,8 @@ QUESTIONS = {
                       "3 where the first label dominates the second, 0 where it does not, or where with --lattice a drawing is written"),
     "shell": Question("shell", "a session in which lines are entered one at a time, each with its reply and, on request, why",
                       "0 at the end of the session"),
+    "watch": Question("watch", "a world with its script, played anew at each change of its file, with what is new and what is gone",
+                      "0 where it was ended by Ctrl-C"),
     "fmt": Question("formatting", "a world with its script in its canonical form, with its comments",
                     "0 where it is written, 3 where with --check something would change"),
     "fuzz": Question("fuzz", "does another program play random worlds as labsys does, and which is the least world on which it does not",
