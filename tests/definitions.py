@@ -6,7 +6,7 @@
     definitions.py --check    prints nothing, and fails where docs/THEOREMS.md lists other files
 
 A definition is used where the file of `run` imports it, or a definition that is used names it. For `play` alone the clauses of
-other commands are left out, and of a definition by cases of the command those of other commands. The case of `lineage` counts,
+other commands are left out, and of a definition by cases of the command, or of what it reads, those of other commands. The case of `lineage` counts,
 since `play` promises what `lineage` has to write of its trail.
 """
 import pathlib
@@ -19,7 +19,9 @@ RUN = CRATES / "labsys" / "src" / "running.rt"
 USE = re.compile(r"^\s*(?:ghost )?(?:pub )?use Rattle\.(\w+)\.specs\.([\w.]+?)(?:\.\{([^}]*)\})?(?: as (\w+))?;?$", re.M)
 HEAD = re.compile(r"^(\s*)(?:(?:unfoldable|abbrev|pub) )*(?:(record|data) (\S+)|(\S+) :(?= ))")
 OF_OTHERS = {"Schedules", "Views", "Upgrades", "Narrows", "SaysNever", "ChecksLineage"}
-CASE_OF_OTHERS = re.compile(r"^\w+ (?:\(Some )?\(?(?:Sched|Check|Gen|Drill|View|Upgrade|Least|Never|Select)\b")
+CASE_OF_OTHERS = re.compile(
+    r"^\w+ (?:\(Some )?\(?(?:OnInput )?\(?"
+    r"(?:Sched|Check|Gen|Drill|View|Upgrade|Least|Never|Select|CallsWithoutSets|OldLines|Programs)\b")
 NAME = re.compile(r"[\w'◌-]+(?:\.[\w'-]+)*")
 
 

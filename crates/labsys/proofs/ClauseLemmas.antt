@@ -11,7 +11,8 @@ use Rattle.kern_model.specs.Prefixes.{IsPrefix}
 use Rattle.kern_model.specs.Lineage.{OnlyDrops, GrowsByExec}
 use Rattle.iso_laws.proofs.Laws.{drops_by_records, growth_by_records}
 use Rattle.labsys.specs.declared.command.Command.{Command}
-use Rattle.labsys.specs.declared.command.Command.TheVariants.{Play, Sched, Check, Gen, Drill, View, Upgrade, Least, Never, Select, Lineage}
+use Rattle.labsys.specs.declared.command.Command.TheVariants.{OnInput, Gen, Drill, Select, Lineage}
+use Rattle.labsys.specs.declared.command.InputCommand.TheVariants.{Play, Sched, Check, View, Upgrade, Least, Never}
 use Rattle.lab_engine.specs.declared.ending.InputEnd.{InputEnd}
 use Rattle.lab_engine.specs.declared.ending.InputEnd.TheVariants.{Whole, Refused as IsRefused, RefusedWord, TooMuch}
 use Rattle.lab_engine.specs.declared.ending.Fault.{Fault}
@@ -21,7 +22,8 @@ use Rattle.labsys.specs.declared.status.Status.TheVariants.{Done, Usage, Refused
 use Rattle.lab_engine.specs.Input.{Accepted, Script, input_of}
 use Rattle.lab_engine.specs.Session.{Session, session_of, bytes_of, replies_of, records_of, head_text, tail_text}
 use Rattle.lab_engine.specs.Order.{Sent, calls_by, out_of, trail_of, session_order, order_by, order_of, order_of_calls, to_out, IsInOrder}
-use Rattle.labsys.specs.Commands.{Due, ends_with, due, reads_source, writes_trail}
+use Rattle.labsys.specs.Commands.{due, reads_source, writes_trail}
+use Rattle.labsys.specs.Plans.{Due, ends_with}
 use Rattle.lab_engine.specs.Counts.{counted_by}
 use Rattle.labsys.specs.Counts.{counts_after}
 use Rattle.io_ends.specs.Ends.{sink_view}
@@ -126,10 +128,6 @@ ends_used c e = record e { trail = sink_view (if_used (writes_trail c) e.trail.h
 -- what holds of the command that the words name
 pub of_command : (o : Option Command) (c : Command) (P : Command → Type 0) → o ≡ Some c → P c → IfSome o P
 of_command o c P is p = subst (λ (x : Option Command). IfSome x P) (sym is) p
-
--- what the command did that the words name
-pub as_named : (o : Option Command) (c d : Command) (r : Result InputEnd Fault) (l l' : Option (List ℕ)) (entry exit : Ends) → o ≡ Some c → o ≡ Some d → CommandDid c r l l' entry exit → CommandDid d r l l' entry exit
-as_named o c d r l l' entry exit is named x = let same : Some c ≡ Some d = sym is ∙ named in subst (λ (k : Command). CommandDid k r l l' entry exit) (cc) x
 
 -- ---- counts
 
@@ -299,7 +297,7 @@ writes_out (Err x) bytes e e' w = record {
 }
 
 -- a command that writes to the output alone did the same where the trail counts as one that holds nothing
-did_beside : (c : Command) (bytes : List ℕ → List ℕ) → ((text : List ℕ) → (due c text).order ≡ to_out (bytes text)) → (c ≡ Play → ⊥)
+did_beside : (c : Command) (bytes : List ℕ → List ℕ) → ((text : List ℕ) → (due c text).order ≡ to_out (bytes text)) → (c ≡ OnInput Play → ⊥)
     → ((text : List ℕ) (r : Result InputEnd Fault) (e e' f f' : Ends) → Besides c text r e e' → Besides c text r f f') → (r : Result InputEnd Fault) (l l' : Option (List ℕ)) (e e' : Ends) → CommandDid c r l l' e e'
     → CommandDid c r l l' (without_trail e) (without_trail e')
 did_beside c bytes is other same r l l' e e' x =
@@ -318,13 +316,13 @@ did_beside c bytes is other same r l l' e e' x =
 -- a command did the same by what the ends report that it uses
 pub did_used : (c : Command) (r : Result InputEnd Fault) (l l' : Option (List ℕ)) (e e' : Ends) → CommandDid c r l l' e e'
     → CommandDid c r (if_used (reads_source c) l) (if_used (reads_source c) l') (ends_used c e) (ends_used c e')
-did_used Play r l l' e e' x = x
-did_used Sched r l l' e e' x = x
-did_used Check r l l' e e' x = did_beside Check _ (λ text. refl) (λ play. absurd (cc)) (λ text q a b c d same. same) r l l' e e' x
-did_used (View word) r l l' e e' x = did_beside (View word) _ (λ text. refl) (λ play. absurd (cc)) (λ text q a b c d same. same) r l l' e e' x
-did_used Upgrade r l l' e e' x = did_beside Upgrade _ (λ text. refl) (λ play. absurd (cc)) (λ text q a b c d same. same) r l l' e e' x
-did_used Least r l l' e e' x = did_beside Least _ (λ text. refl) (λ play. absurd (cc)) (λ text q a b c d same. same) r l l' e e' x
-did_used Never r l l' e e' x = did_beside Never _ (λ text. refl) (λ play. absurd (cc)) (λ text q a b c d same. same) r l l' e e' x
+did_used (OnInput Play) r l l' e e' x = x
+did_used (OnInput Sched) r l l' e e' x = x
+did_used (OnInput Check) r l l' e e' x = did_beside (OnInput Check) _ (λ text. refl) (λ play. absurd (cc)) (λ text q a b c d same. same) r l l' e e' x
+did_used (OnInput (View word)) r l l' e e' x = did_beside (OnInput (View word)) _ (λ text. refl) (λ play. absurd (cc)) (λ text q a b c d same. same) r l l' e e' x
+did_used (OnInput Upgrade) r l l' e e' x = did_beside (OnInput Upgrade) _ (λ text. refl) (λ play. absurd (cc)) (λ text q a b c d same. same) r l l' e e' x
+did_used (OnInput Least) r l l' e e' x = did_beside (OnInput Least) _ (λ text. refl) (λ play. absurd (cc)) (λ text q a b c d same. same) r l l' e e' x
+did_used (OnInput Never) r l l' e e' x = did_beside (OnInput Never) _ (λ text. refl) (λ play. absurd (cc)) (λ text q a b c d same. same) r l l' e e' x
 did_used (Select word) r l l' e e' x = did_beside (Select word) _ (λ text. refl) (λ play. absurd (cc)) (λ text q a b c d same. same) r l l' e e' x
 did_used Lineage r l l' e e' x = did_beside Lineage _ (λ text. refl) (λ play. absurd (cc)) (λ text q a b c d same. same) r l l' e e' x
 did_used (Gen n) r l l' e e' x = record { taken = []; took = Consumes-nil (Some []); few = omega arith; writes = writes_out r _ e e' x.writes; status = x.status; to_the_end = λ reads. absurd (cc); by_line = λ play. absurd (cc); besides = tt }
@@ -365,7 +363,7 @@ module _ (c : Command) (r : Result InputEnd Fault) (l l' : Option (List ℕ)) (e
 
 -- ---- what `play` did
 
-module _ (r : Result InputEnd Fault) (l l' : Option (List ℕ)) (entry exit : Ends) (x : CommandDid Play r l l' entry exit) where
+module _ (r : Result InputEnd Fault) (l l' : Option (List ℕ)) (entry exit : Ends) (x : CommandDid (OnInput Play) r l l' entry exit) where
   abbrev before_play : Reports
   before_play = reports l entry.out.held entry.trail.held
 
@@ -376,7 +374,7 @@ module _ (r : Result InputEnd Fault) (l l' : Option (List ℕ)) (entry exit : En
   where_played : (P : List ℕ → Accepted → Script → List ℕ → List ℕ → Type 0)
       → ((text : List ℕ) (a : Accepted) (sent rest : List Sent) → (input_of text).accepted ≡ Some a → session_order (session_of a (input_of text).script) ≡ sent ++ rest → P text a (input_of text).script (out_of sent) (trail_of sent))
       → WhereReported before_play after_play (λ text out trail. WhereAccepted text (λ a m. P text a m out trail))
-  where_played P f = where_sent Play r l l' entry exit x _ (λ text sent rest e a is. f text a sent rest is (by_session text a sent rest is e))
+  where_played P f = where_sent (OnInput Play) r l l' entry exit x _ (λ text sent rest e a is. f text a sent rest is (by_session text a sent rest is e))
 
   -- what was played is readable
   readable : (text : List ℕ) → l ≡ Some text → InputReadable (input_of text) entry exit
@@ -426,24 +424,24 @@ module _ (r : Result InputEnd Fault) (l l' : Option (List ℕ)) (entry exit : En
 
   run_isolated_whole : (s : Status) → s ≡ status_of r → (k : Label) → OnWhole s (WhereReported before_play after_play (λ text out trail. WhereAccepted text (λ a m. IsolatedWhole k a m out)))
   run_isolated_whole s is k = whole_gives s _ _ (reported_gives before_play after_play _ _ (λ text out trail w a acc.
-      is_isolated_whole k a (input_of text).script (accepted_input text a acc) out (all_written text a out acc w.0))) (run_all Play r l l' entry exit x s is)
+      is_isolated_whole k a (input_of text).script (accepted_input text a acc) out (all_written text a out acc w.0))) (run_all (OnInput Play) r l l' entry exit x s is)
 
   run_two_whole : (s : Status) → s ≡ status_of r → (k : Label) (other : List ℕ) → OnWhole s (WhereReported before_play after_play
       (λ text out trail. WhereAccepted text (λ a m. WhereAccepted other (λ b m'. SameBelow k a m b m' → TwoWhole k a m b m' out))))
   run_two_whole s is k other = whole_gives s _ _ (reported_gives before_play after_play _ _ (λ text out trail w a acc b acc' same.
-      two_whole k a (input_of text).script (accepted_input text a acc) b (input_of other).script (accepted_input other b acc') same out (all_written text a out acc w.0))) (run_all Play r l l' entry exit x s is)
+      two_whole k a (input_of text).script (accepted_input text a acc) b (input_of other).script (accepted_input other b acc') same out (all_written text a out acc w.0))) (run_all (OnInput Play) r l l' entry exit x s is)
 
   -- both sinks got all that is due of `play`
   abbrev WholeSent : Type 0
-  WholeSent = WhereReported before_play after_play (λ text out trail. (out ≡ out_of (due Play text).order) × (trail ≡ trail_of (due Play text).order))
+  WholeSent = WhereReported before_play after_play (λ text out trail. (out ≡ out_of (due (OnInput Play) text).order) × (trail ≡ trail_of (due (OnInput Play) text).order))
 
   -- what `lineage` has to write of the trail
   run_answered_yes : (s : Status) → s ≡ status_of r
       → OnWhole s (WhereReported before_play after_play (λ text out trail. WhereAccepted text (λ a m. length trail ≤ MAX_INPUT → AnsweredYes (session_of a m) trail)))
   run_answered_yes s is =
-      whole_gives s WholeSent _ (λ all. reported_gives before_play after_play _ _ answered (reported_both before_play after_play _ _ all run_printed_by_any)) (run_all Play r l l' entry exit x s is)
+      whole_gives s WholeSent _ (λ all. reported_gives before_play after_play _ _ answered (reported_both before_play after_play _ _ all run_printed_by_any)) (run_all (OnInput Play) r l l' entry exit x s is)
     where
-      answered : (text out trail : List ℕ) → ((out ≡ out_of (due Play text).order) × (trail ≡ trail_of (due Play text).order)) × WhereAccepted text (λ a m. PrintedByAny (session_of a m) out trail)
+      answered : (text out trail : List ℕ) → ((out ≡ out_of (due (OnInput Play) text).order) × (trail ≡ trail_of (due (OnInput Play) text).order)) × WhereAccepted text (λ a m. PrintedByAny (session_of a m) out trail)
           → WhereAccepted text (λ a m. length trail ≤ MAX_INPUT → AnsweredYes (session_of a m) trail)
       answered text out trail both a acc =
           let m : Script = (input_of text).script in
@@ -468,7 +466,7 @@ module _ (r : Result InputEnd Fault) (l l' : Option (List ℕ)) (entry exit : En
 -- ---- what `view` did
 
 -- what a view wrote of an accepted world
-pub viewed : (word text : List ℕ) (k : Label) (a : Accepted) → (input_of text).accepted ≡ Some a → parse_label a.policy word ≡ Some k → out_of (due (View word) text).order ≡ view_text k (session_of a (input_of text).script)
+pub viewed : (word text : List ℕ) (k : Label) (a : Accepted) → (input_of text).accepted ≡ Some a → parse_label a.policy word ≡ Some k → out_of (due (OnInput (View word)) text).order ≡ view_text k (session_of a (input_of text).script)
 viewed word text k a is named =
     let m : Script = (input_of text).script in
     ap (λ (w : Option Accepted). out_of (to_out (text_of_view word w m))) is
@@ -476,12 +474,12 @@ viewed word text k a is named =
     ∙ out_of-to_out (view_text k (session_of a m))
 
 -- all that `view` promises: where nothing crosses, it is a view of the part below the label alone
-pub run_view : (word : List ℕ) (r : Result InputEnd Fault) (l l' : Option (List ℕ)) (entry exit : Ends) → CommandDid (View word) r l l' entry exit → (s : Status) → s ≡ status_of r
+pub run_view : (word : List ℕ) (r : Result InputEnd Fault) (l l' : Option (List ℕ)) (entry exit : Ends) → CommandDid (OnInput (View word)) r l l' entry exit → (s : Status) → s ≡ status_of r
     → Views word s (reports l entry.out.held entry.trail.held) (reports l' exit.out.held exit.trail.held)
 run_view word r l l' entry exit x s is = record {
   view_alone = λ k done. reported_gives _ _ _ _ (λ text out trail w a accepted named none.
       let fits = accepted_input text a accepted in
-      w.0 ∙ viewed word text k a accepted named ∙ view_alone k a (input_of text).script fits.world fits.script none) (done_wrote (View word) r l l' entry exit x s is done);
+      w.0 ∙ viewed word text k a accepted named ∙ view_alone k a (input_of text).script fits.world fits.script none) (done_wrote (OnInput (View word)) r l l' entry exit x s is done);
 }
 
 -- ---- what `upgrade` did
@@ -509,12 +507,12 @@ text_upgraded i a is whole =
     ∙ ap (λ (t : List ℕ). text_of_world a ++ t) (append-nil i.script.text)
 
 -- all that `upgrade` promises
-pub run_upgrade : (r : Result InputEnd Fault) (l l' : Option (List ℕ)) (entry exit : Ends) → CommandDid Upgrade r l l' entry exit → (s : Status) → s ≡ status_of r
+pub run_upgrade : (r : Result InputEnd Fault) (l l' : Option (List ℕ)) (entry exit : Ends) → CommandDid (OnInput Upgrade) r l l' entry exit → (s : Status) → s ≡ status_of r
     → Upgrades s (reports l entry.out.held entry.trail.held) (reports l' exit.out.held exit.trail.held)
 run_upgrade r l l' entry exit x s is = record {
   upgraded = λ done. reported_gives _ _ _ _ (λ text out trail w.
       let i = upgrade_of text in
       let whole : i.script.ending ≡ Whole = ends_whole i.script.ending w.1.0 in
       let read = where_done r (WorldReadsBack i) (sym done ∙ is) w.1.1 in
-      upgraded text out whole (λ a accepted. (read a accepted, w.0 ∙ text_upgraded i a accepted whole))) (done_wrote Upgrade r l l' entry exit x s is done);
+      upgraded text out whole (λ a accepted. (read a accepted, w.0 ∙ text_upgraded i a accepted whole))) (done_wrote (OnInput Upgrade) r l l' entry exit x s is done);
 }

@@ -1,21 +1,21 @@
 -- What a source has left, and an input without a world.
-use Rattle.std.proofs.Common.{◌≡◌, ℕ, true, List, [], ◌++◌, refl, sym, ◌∙◌, ap, subst, arith}
+use Rattle.std.proofs.Common.{◌≡◌, ℕ, List, [], ◌++◌, refl, sym, ◌∙◌, ap, subst, arith}
 use Rattle.std.proofs.KnownBytes.{Consumes-nil}
 use Rattle.std.specs.Prelude.{Option, None, Some}
 use Rattle.std.specs.Io.KnownBytes.{Consumes}
 use Rattle.io_ends.specs.LinesState.{LinesState, may_take}
 use Rattle.lab_engine.specs.declared.ending.InputEnd.{InputEnd}
 use Rattle.lab_engine.specs.Input.{Accepted, Input, no_world}
-use Rattle.lab_engine.specs.Opening.{EndsInput}
+use Rattle.lab_engine.specs.declared.opening.OpenedWorld.{OpenedWorld}
+use Rattle.lab_engine.specs.Opening.{EndsInput, OpensWorld}
 use Rattle.lab_engine.specs.Order.{Sent, calls_by, order_by, order_of, order_of_calls, to_out}
 use Rattle.lab_engine.specs.Reading.{Takes, left_of}
 use Rattle.lab_engine.specs.Texts.{last_text}
-use Rattle.labsys.specs.declared.command.Command.{Command}
-use Rattle.labsys.specs.declared.command.Command.TheVariants.{Play, Sched, Check, Gen, Drill, View, Upgrade, Least, Never, Select, Lineage}
+use Rattle.labsys.specs.declared.command.InputCommand.{InputCommand}
+use Rattle.labsys.specs.declared.command.InputCommand.TheVariants.{Play, Sched, Check, View, Upgrade, Least, Never}
 use Rattle.labsys.specs.Clauses.{TakesAtMost}
-use Rattle.labsys.specs.Commands.{due, due_of_check, due_of_least, due_of_never, due_of_play, due_of_sched, due_of_upgrade, due_of_view, ends_with}
-use Rattle.labsys.specs.Playing.{format_of, reads_input}
-use Rattle.labsys.proofs.ProgramInputs.{no_programs}
+use Rattle.labsys.specs.Plans.{InputKind, Calls, CallsWithoutSets, OldLines, Programs, due_of, due_with, format_in, kind_of, read_left, read_none, read_of}
+use Rattle.labsys.proofs.ProgramInputs.{no_programs, programs_left}
 
 -- ---- what a source has left
 
@@ -47,19 +47,29 @@ without_world : (e : InputEnd) → to_out (last_text 0 e) ≡ order_of (no_world
 unfolding order_by
 without_world e = refl
 
--- what is due of a command that reads an input is then the last line
-pub due_without_world : (c : Command) → reads_input c ≡ true → (left : Option (List ℕ)) (taken : List ℕ) (e : InputEnd) → EndsInput (format_of c) left taken e → due c (taken ++ left_of left) ≡ record { order = to_out (last_text 0 e); status = ends_with e }
-due_without_world Play reads left taken e ended = ap due_of_play ended.says ∙ ap (λ (o : List Sent). record { order = o; status = ends_with e }) (sym (without_world e))
-due_without_world Sched reads left taken e ended = ap due_of_sched (no_programs (taken ++ left_of left) e ended.says)
-due_without_world Check reads left taken e ended = ap due_of_check ended.says
-due_without_world (Gen n) reads left taken e ended = absurd (cc)
-due_without_world (Drill n) reads left taken e ended = absurd (cc)
-due_without_world (View word) reads left taken e ended = ap (due_of_view word) ended.says
-due_without_world Upgrade reads left taken e ended = ap due_of_upgrade ended.keeps
-due_without_world Least reads left taken e ended = ap due_of_least ended.least
-due_without_world Never reads left taken e ended = ap due_of_never ended.says
-due_without_world (Select word) reads left taken e ended = absurd (cc)
-due_without_world Lineage reads left taken e ended = absurd (cc)
+-- what is read of an input whose world was accepted
+pub opened_input : (kind : InputKind) (taken : List ℕ) (w : OpenedWorld) → OpensWorld (format_in kind) taken w → (more : List ℕ) → read_of kind (taken ++ more) ≡ read_left kind w.read w.lines more
+opened_input Calls taken w opens more = opens.says more
+opened_input CallsWithoutSets taken w opens more = opens.least more
+opened_input OldLines taken w opens more = opens.keeps more
+opened_input Programs taken w opens more = programs_left (taken ++ more) w.read w.lines more (opens.begun more)
+
+-- what is read of one that ends before its world does
+pub ended_input : (kind : InputKind) (left : Option (List ℕ)) (taken : List ℕ) (e : InputEnd) → EndsInput (format_in kind) left taken e → read_of kind (taken ++ left_of left) ≡ read_none kind e
+ended_input Calls left taken e ended = ended.says
+ended_input CallsWithoutSets left taken e ended = ended.least
+ended_input OldLines left taken e ended = ended.keeps
+ended_input Programs left taken e ended = no_programs (taken ++ left_of left) e ended.says
+
+-- of that the last line is due
+pub due_without_world : (c : InputCommand) (e : InputEnd) → due_of c (read_none (kind_of c) e) ≡ due_with (to_out (last_text 0 e)) e
+due_without_world Play e = ap (λ (o : List Sent). due_with o e) (sym (without_world e))
+due_without_world Sched e = refl
+due_without_world Check e = refl
+due_without_world (View word) e = refl
+due_without_world Upgrade e = refl
+due_without_world Least e = refl
+due_without_world Never e = refl
 
 pub no_calls : (i : Input) → i.accepted ≡ None → order_of_calls i ≡ []
 unfolding calls_by

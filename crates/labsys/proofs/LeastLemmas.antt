@@ -24,12 +24,12 @@ use Rattle.lab_engine.specs.Reading.{least_at, left_of}
 use Rattle.lab_engine.specs.Report.{caps_in, report_after}
 use Rattle.lab_engine.specs.Upgrading.{ReadsBack}
 use Rattle.lab_engine.proofs.RunReports.{named_after}
-use Rattle.labsys.specs.declared.command.Command.TheVariants.{Least}
-use Rattle.labsys.specs.Commands.{ends_with}
-use Rattle.labsys.specs.Least.{least_world, needed_by, needs_text, text_of_least}
+use Rattle.labsys.specs.declared.command.InputCommand.TheVariants.{Least}
+use Rattle.labsys.specs.Plans.{CallsWithoutSets, ends_with, read_left}
+use Rattle.labsys.specs.Least.{NarrowedReadsBack, least_world, needed_by, needs_text, text_of_least}
 use Rattle.labsys.specs.Playing.{DoesWorld, NeedsWorld, due_left}
 use Rattle.labsys.proofs.InputLemmas.{reads_nothing, reads_within}
-use Rattle.labsys.proofs.WorldLemmas.{failed_ending, reading_stops, text_stops, text_written}
+use Rattle.labsys.proofs.WorldLemmas.{failed_ending, reading_stops, some_same, text_stops, text_written}
 
 -- ---- a script of an accepted world
 
@@ -86,6 +86,6 @@ module _ (a : Accepted) (r : Result InputEnd Fault) (lines : LinesState) (left l
     least_written is back sends = record {
       wrote = text_written (due_left Least a lines) r lines left left' did.reads n n' o t still _ text_is o' kept.ending is sends (ap ends_with did.did.ending) did.did.to_the_end;
       by_line = λ play. absurd (cc);
-      besides = subst (λ (x : Result InputEnd Fault). IfOk x (λ e. e ≡ Whole → ReadsBack (least_world a (needed_by a m)))) (sym is)
-          (λ whole. subst (λ (caps : CapSet). ReadsBack (least_world a caps)) did.did.caps (back whole));
+      besides = subst (λ (x : Result InputEnd Fault). IfOk x (NarrowedReadsBack (read_left CallsWithoutSets a lines (did.reads.taken ++ left_of left')))) (sym is)
+          (λ whole b same. subst (λ (w : Accepted). ReadsBack (least_world w (needed_by w m))) (some_same a b same) (subst (λ (caps : CapSet). ReadsBack (least_world a caps)) did.did.caps (back whole)));
     }

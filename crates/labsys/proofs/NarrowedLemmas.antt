@@ -29,7 +29,8 @@ use Rattle.lab_engine.specs.Playing.{Ends}
 use Rattle.lab_engine.specs.Upgrading.{ReadsBack}
 use Rattle.lab_engine.proofs.LeastLaws.{IsComment, PlayedWhole, played_whole}
 use Rattle.lab_engine.proofs.Sending.{out_of-to_out}
-use Rattle.labsys.specs.declared.command.Command.TheVariants.{Least}
+use Rattle.labsys.specs.declared.command.Command.TheVariants.{OnInput}
+use Rattle.labsys.specs.declared.command.InputCommand.TheVariants.{Least}
 use Rattle.labsys.specs.declared.status.Status.{Status}
 use Rattle.labsys.specs.declared.status.Status.TheVariants.{Done}
 use Rattle.labsys.specs.Clauses.{reports, status_of}
@@ -166,11 +167,11 @@ module _ (text out : List ℕ) (p : PlayedWhole text) where
 -- ---- a run
 
 -- all that `least` promises
-pub run_least : (r : Result InputEnd Fault) (l l' : Option (List ℕ)) (entry exit : Ends) → CommandDid Least r l l' entry exit → (s : Status) → s ≡ status_of r
+pub run_least : (r : Result InputEnd Fault) (l l' : Option (List ℕ)) (entry exit : Ends) → CommandDid (OnInput Least) r l l' entry exit → (s : Status) → s ≡ status_of r
     → Narrows s (reports l entry.out.held entry.trail.held) (reports l' exit.out.held exit.trail.held)
-run_least r l l' entry exit x s is = record { narrowed = λ done. reported_gives _ _ _ _ (narrowed_by (only_done r (sym is ∙ done))) (done_wrote Least r l l' entry exit x s is done) }
+run_least r l l' entry exit x s is = record { narrowed = λ done. reported_gives _ _ _ _ (narrowed_by (only_done r (sym is ∙ done))) (done_wrote (OnInput Least) r l l' entry exit x s is done) }
   where
-    narrowed_by : r ≡ Ok Whole → (text out trail : List ℕ) → (out ≡ out_of (due Least text).order) × ((Done ≡ (due Least text).status) × IfOk r (NarrowedReadsBack (least_of text))) → NarrowedTo text out
+    narrowed_by : r ≡ Ok Whole → (text out trail : List ℕ) → (out ≡ out_of (due (OnInput Least) text).order) × ((Done ≡ (due (OnInput Least) text).status) × IfOk r (NarrowedReadsBack (least_of text))) → NarrowedTo text out
     narrowed_by ok text out trail w =
         let i = least_of text in
         let p = played_whole text (ends_whole i.script.ending w.1.0) in

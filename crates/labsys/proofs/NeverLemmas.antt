@@ -34,10 +34,12 @@ use Rattle.lab_engine.specs.Session.{numbered_recs, session_of}
 use Rattle.lab_engine.specs.Texts.{last_text}
 use Rattle.lab_engine.proofs.Sending.{out_of-to_out, to_out-append}
 use Rattle.lab_engine.proofs.ViewLemmas.{view_alone}
-use Rattle.labsys.specs.declared.command.Command.TheVariants.{Never, Play}
+use Rattle.labsys.specs.declared.command.Command.TheVariants.{OnInput}
+use Rattle.labsys.specs.declared.command.InputCommand.TheVariants.{Never, Play}
 use Rattle.labsys.specs.declared.status.Status.{Status}
 use Rattle.labsys.specs.Clauses.{TakesAtMost, reports, status_of, trail_with}
-use Rattle.labsys.specs.Commands.{due, ends_with}
+use Rattle.labsys.specs.Commands.{due}
+use Rattle.labsys.specs.Plans.{ends_with}
 use Rattle.labsys.specs.Never.{count_labels, givers_text, holders_text, labels_text, lines_by, never_text, said_text, text_of_never, unexercised, unexercised_text}
 use Rattle.labsys.specs.Playing.{CommandDid, DoesWorld, WritesLeft, due_left}
 use Rattle.labsys.specs.Promises.{HoldsOf, SaysNever}
@@ -104,7 +106,7 @@ not_ever w c is = only_false (has (ever w) c) (and_parts (has all_of_caps c) (no
 
 -- the trail that is due of `play`
 trail_due : (text : List ℕ) (a : Accepted) → (input_of text).accepted ≡ Some a
-    → trail_of (due Play text).order ≡ trail_with (session_of a (input_of text).script) (numbered_recs (session_of a (input_of text).script))
+    → trail_of (due (OnInput Play) text).order ≡ trail_with (session_of a (input_of text).script) (numbered_recs (session_of a (input_of text).script))
 unfolding order_by
 trail_due text a is =
     ap (λ (w : Option Accepted). trail_of (order_by w (input_of text).script)) is
@@ -124,16 +126,16 @@ holds_of a other same =
     }
 
 -- what was written of an accepted world whose script is whole
-said : (text : List ℕ) (a : Accepted) → (input_of text).accepted ≡ Some a → (input_of text).script.ending ≡ Whole → out_of (due Never text).order ≡ never_text a
+said : (text : List ℕ) (a : Accepted) → (input_of text).accepted ≡ Some a → (input_of text).script.ending ≡ Whole → out_of (due (OnInput Never) text).order ≡ never_text a
 said text a is whole =
     ap (λ (w : Option Accepted). out_of (to_out (text_of_never w (input_of text).script))) is
     ∙ ap (λ e. out_of (to_out (said_text a e))) whole
     ∙ out_of-to_out (never_text a)
 
 -- all that `never` promises
-pub run_never : (r : Result InputEnd Fault) (l l' : Option (List ℕ)) (entry exit : Ends) → CommandDid Never r l l' entry exit → (s : Status) → s ≡ status_of r
+pub run_never : (r : Result InputEnd Fault) (l l' : Option (List ℕ)) (entry exit : Ends) → CommandDid (OnInput Never) r l l' entry exit → (s : Status) → s ≡ status_of r
     → SaysNever s (reports l entry.out.held entry.trail.held) (reports l' exit.out.held exit.trail.held)
 run_never r l l' entry exit x s is = record {
   for_all = λ done. reported_gives _ _ _ _ (λ text out trail w a accepted.
-      (w.0 ∙ said text a accepted (ends_whole (input_of text).script.ending w.1.0), holds_of a)) (done_wrote Never r l l' entry exit x s is done);
+      (w.0 ∙ said text a accepted (ends_whole (input_of text).script.ending w.1.0), holds_of a)) (done_wrote (OnInput Never) r l l' entry exit x s is done);
 }

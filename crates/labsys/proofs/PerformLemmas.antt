@@ -14,9 +14,11 @@ use Rattle.lab_engine.specs.Reading.{left_of}
 use Rattle.lab_engine.specs.Playing.{Ends, ends, SendsAll, StopsBy, Writes, faults_of}
 use Rattle.lab_engine.proofs.Sending.{in_order, not_a_read, passes_on}
 use Rattle.labsys.specs.declared.command.Command.{Command}
-use Rattle.labsys.specs.declared.command.Command.TheVariants.{Play, Gen, Drill}
+use Rattle.labsys.specs.declared.command.Command.TheVariants.{OnInput, Gen, Drill}
+use Rattle.labsys.specs.declared.command.InputCommand.TheVariants.{Play}
 use Rattle.labsys.specs.declared.status.Status.TheVariants.{Done}
-use Rattle.labsys.specs.Commands.{Due, LeavesAlone, due, ends_with, reads_source}
+use Rattle.labsys.specs.Commands.{LeavesAlone, due, reads_source}
+use Rattle.labsys.specs.Plans.{Due, ends_with}
 use Rattle.labsys.specs.Drilling.{drilled_text}
 use Rattle.labsys.specs.Playing.{CommandDid}
 use Rattle.labsys.proofs.TrailLemmas.{HasNoMore}
@@ -26,7 +28,7 @@ use Rattle.labsys.proofs.WorldLemmas.{failed_ending}
 pub record WritesAlone (c : Command) (text : List ℕ) : Type 0 where
   pub is_due : (bytes : List ℕ) → due c bytes ≡ record { order = to_out text; status = Done }
   pub reads_nothing : reads_source c ≡ false
-  pub is_not_play : c ≡ Play → ⊥
+  pub is_not_play : c ≡ OnInput Play → ⊥
   pub no_more : HasNoMore c
 
 no_read : (reads : Bool) → reads ≡ false → reads ≡ true → ⊥

@@ -28,13 +28,13 @@ use Rattle.lab_engine.specs.Texts.{ends_text, last_text}
 use Rattle.lab_engine.proofs.ReadableLemmas.{with_numbers}
 use Rattle.lab_engine.proofs.ReportLemmas.{all_reported}
 use Rattle.lab_engine.proofs.Sending.{goes_on, in_order, prefix_after, prefix_longer, prefix_nothing, sends_more, stops_after, stops_at_once, stops_longer}
-use Rattle.labsys.specs.declared.command.Command.TheVariants.{Play}
+use Rattle.labsys.specs.declared.command.InputCommand.TheVariants.{Play}
 use Rattle.labsys.specs.Clauses.{TakesAtMost}
-use Rattle.labsys.specs.Commands.{ends_with}
+use Rattle.labsys.specs.Plans.{ends_with}
 use Rattle.labsys.specs.Playing.{DoesWorld, due_left}
-use Rattle.labsys.specs.Readable.{SessionReadable}
+use Rattle.labsys.specs.Readable.{InputReadable, SessionReadable}
 use Rattle.labsys.proofs.InputLemmas.{reads_nothing, reads_within}
-use Rattle.labsys.proofs.WorldLemmas.{failed_read, left_stops, left_written, memory_not_read}
+use Rattle.labsys.proofs.WorldLemmas.{failed_read, left_stops, left_written, memory_not_read, some_same}
 
 -- ---- an accepted world
 
@@ -43,6 +43,9 @@ run_length s [] = refl
 run_length s (i ∷ is) = let more = run_length (step s i.who i.call).state is in omega (arith, more)
 
 module _ (a : Accepted) (recs : List Rec) (recs_are : recs ≡ boot_recs a.world) (s : State) (s_is : s ≡ boot a.world) where
+  played_readable : (m : Script) (before after : Ends) → SessionReadable a m before after → InputReadable (record { accepted = Some a; script = m }) before after
+  played_readable m before after played = λ b same. subst (λ (w : Accepted). SessionReadable w m before after) (some_same a b same) played
+
   abbrev head : List Sent
   head = to_trail (header_text a.policy a.world.bound ++ flat_map (rec_text a.policy 0) recs)
 
@@ -88,7 +91,7 @@ module _ (a : Accepted) (recs : List Rec) (recs_are : recs ≡ boot_recs a.world
     boot_fails is = record {
       wrote = left_stops (due_left Play a lines) r lines left left none_read before before NoMemory (stops_at_once _ before) is;
       by_line = λ play read. absurd (memory_not_read r is read);
-      besides = inr (prefix_nothing _ before.source before.source before.out before.trail);
+      besides = played_readable (script_at a.policy lines (left_of left)) before before (inr (prefix_nothing _ before.source before.source before.out before.trail));
     }
 
     -- a fault cut the head of the trail off
@@ -99,7 +102,7 @@ module _ (a : Accepted) (recs : List Rec) (recs_are : recs ≡ boot_recs a.world
           wrote = left_stops (due_left Play a lines) r lines left left none_read before after fault
               (subst (λ (o : List Sent). StopsBy fault o before after) (order_is m) (stops_longer fault head (calls m ++ tail m) before after stop)) is;
           by_line = λ play read. absurd (not_read (failed_read r fault is read));
-          besides = inr (subst (λ (o : List Sent). SendsPrefix o before after) (head_first m) (prefix_longer head (calls m) before after stop.sends));
+          besides = played_readable m before after (inr (subst (λ (o : List Sent). SendsPrefix o before after) (head_first m) (prefix_longer head (calls m) before after stop.sends)));
         }
 
     -- the head was written
@@ -116,7 +119,7 @@ module _ (a : Accepted) (recs : List Rec) (recs_are : recs ≡ boot_recs a.world
         wrote = left_stops (due_left Play a lines) r lines left left' reads before after fault
             (subst (λ (o : List Sent). StopsBy fault o before after) (order_is m) (stops_after fault head (calls m ++ tail m) before now after headed (stops_longer fault (calls m) (tail m) now after stop.stops))) is;
         by_line = λ play read. subst (λ (o : List Sent). Sends o before after) (calls_are (script_at a.policy lines taken)) (sends_more head (calls (script_at a.policy lines taken)) before now after headed.sends (stop.by_line (failed_read r fault is read)));
-        besides = inr (subst (λ (o : List Sent). SendsPrefix o before after) (head_first m) (prefix_after head (calls m) before now after headed.sends stop.stops.sends));
+        besides = played_readable m before after (inr (subst (λ (o : List Sent). SendsPrefix o before after) (head_first m) (prefix_after head (calls m) before now after headed.sends stop.stops.sends)));
       }
 
       -- the script was played
@@ -140,7 +143,7 @@ module _ (a : Accepted) (recs : List Rec) (recs_are : recs ≡ boot_recs a.world
         end_fails fault stop not_read is = record {
           wrote = left_stops (due_left Play a lines) r lines left left' reads before after fault (written (Err fault) stop) is;
           by_line = λ play read. absurd (not_read (failed_read r fault is read));
-          besides = all_readable;
+          besides = played_readable m before after all_readable;
         }
 
         -- all is written
@@ -148,5 +151,5 @@ module _ (a : Accepted) (recs : List Rec) (recs_are : recs ≡ boot_recs a.world
         world_played is sends = record {
           wrote = left_written (due_left Play a lines) r lines left left' reads before after p.ending is (written (Ok p.ending) sends) (ap ends_with all.ending) all.to_the_end;
           by_line = λ play read. let no : Ok p.ending ≡ Err Read = sym is ∙ read in absurd (cc);
-          besides = all_readable;
+          besides = played_readable m before after all_readable;
         }

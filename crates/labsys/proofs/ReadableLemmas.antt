@@ -5,28 +5,13 @@ use Rattle.std.specs.Prelude.{Some, None}
 use Rattle.std.specs.declared.option.Option.{Option}
 use Rattle.std.specs.Io.KnownBytes.{Appends}
 use Rattle.std.specs.List.{AllByRecursion}
-use Rattle.lab_engine.specs.declared.ending.InputEnd.{InputEnd}
-use Rattle.lab_engine.specs.Input.{Accepted, Script, Input, no_world}
 use Rattle.lab_engine.specs.Order.{Sent, order_before_end, out_of}
 use Rattle.lab_engine.specs.Playing.{Ends, Sends}
 use Rattle.lab_engine.specs.Readable.{IsReadable}
 use Rattle.lab_engine.specs.Session.{Session, bytes_of, numbered_recs, replies_of}
 use Rattle.lab_engine.proofs.Sending.{out_of-append}
-use Rattle.labsys.specs.Readable.{InputReadable, ReadableOrStopped, SessionReadable}
+use Rattle.labsys.specs.Readable.{ReadableOrStopped}
 use Rattle.labsys.proofs.Coverage.{replies_alone}
-
--- ---- an input
-
--- an accepted world was played
-pub input_played : (i : Input) (before after : Ends) (a : Accepted) (m : Script) → i ≡ record { accepted = Some a; script = m } → SessionReadable a m before after → InputReadable i before after
-input_played i before after a m is played = subst (λ (x : Input). InputReadable x before after) (sym is) (λ b e. subst (λ (w : Accepted). SessionReadable w m before after) (same_world a b e) played)
-  where
-    same_world : (v w : Accepted) → Some v ≡ Some w → v ≡ w
-    same_world v w e = cc
-
--- no world was accepted
-pub input_without_world : (i : Input) (before after : Ends) (ending : InputEnd) → i ≡ no_world ending → InputReadable i before after
-input_without_world i before after ending is = subst (λ (x : Input). InputReadable x before after) (sym is) (λ b e. cc)
 
 -- ---- what is readable where the output goes on after the replies
 

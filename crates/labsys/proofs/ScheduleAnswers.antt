@@ -12,7 +12,8 @@ use Rattle.lab_engine.specs.Playing.{Ends}
 use Rattle.lab_engine.specs.Reading.{left_of}
 use Rattle.lab_engine.specs.Session.{Session, bytes_of, numbered_recs, replies_of, session_of, tail_text}
 use Rattle.sched_engine.specs.declared.schedule.Schedule.{Schedule}
-use Rattle.labsys.specs.declared.command.Command.TheVariants.{Sched}
+use Rattle.labsys.specs.declared.command.Command.TheVariants.{OnInput}
+use Rattle.labsys.specs.declared.command.InputCommand.TheVariants.{Sched}
 use Rattle.labsys.specs.declared.status.Status.{Status}
 use Rattle.labsys.specs.Clauses.{OnWhole, Reports, WhereReported, Covered, RepliesFirst, Printed, Dropped, reports, status_of}
 use Rattle.labsys.specs.Commands.{due}
@@ -63,7 +64,7 @@ all_replies text a s out is all = record { rest = tail_text (session_by a s); wh
 
 -- ---- a run
 
-module _ (r : Result InputEnd Fault) (l l' : Option (List ℕ)) (entry exit : Ends) (x : CommandDid Sched r l l' entry exit) where
+module _ (r : Result InputEnd Fault) (l l' : Option (List ℕ)) (entry exit : Ends) (x : CommandDid (OnInput Sched) r l l' entry exit) where
   abbrev before_run : Reports
   before_run = reports l entry.out.held entry.trail.held
 
@@ -74,7 +75,7 @@ module _ (r : Result InputEnd Fault) (l l' : Option (List ℕ)) (entry exit : En
   where_run : (P : List ℕ → Accepted → Schedule → List ℕ → List ℕ → Type 0)
       → ((text : List ℕ) (a : Accepted) (s : Schedule) (sent rest : List Sent) → programs_of text ≡ HasSchedule a s → session_order (session_by a s) ≡ sent ++ rest → P text a s (out_of sent) (trail_of sent))
       → WhereReported before_run after_run (λ text out trail. WhereScheduled text (λ a s. P text a s out trail))
-  where_run P f = where_sent Sched r l l' entry exit x _ (λ text sent rest e a s is. f text a s sent rest is (by_schedule text a s sent rest is e))
+  where_run P f = where_sent (OnInput Sched) r l l' entry exit x _ (λ text sent rest e a s is. f text a s sent rest is (by_schedule text a s sent rest is e))
 
   -- what was played is readable
   readable : (text : List ℕ) → l ≡ Some text → ProgramsReadable (programs_of text) entry exit
@@ -98,23 +99,23 @@ module _ (r : Result InputEnd Fault) (l l' : Option (List ℕ)) (entry exit : En
 
   -- both sinks got all that is due of `sched`
   abbrev WholeSent : Type 0
-  WholeSent = WhereReported before_run after_run (λ text out trail. (out ≡ out_of (due Sched text).order) × (trail ≡ trail_of (due Sched text).order))
+  WholeSent = WhereReported before_run after_run (λ text out trail. (out ≡ out_of (due (OnInput Sched) text).order) × (trail ≡ trail_of (due (OnInput Sched) text).order))
 
   module _ (status : Status) (is : status ≡ status_of r) where
     schedules_isolated_whole : (k : Label) → OnWhole status (OnScheduled before_run after_run (λ a s out trail. LoopIsolatedWhole k a s out))
     schedules_isolated_whole k = whole_gives status _ _ (reported_gives before_run after_run _ _ (λ text out trail w a s found.
-        loop_isolated_whole k a s (accepted_programs text a s found) out (all_replies text a s out found w.0))) (run_all Sched r l l' entry exit x status is)
+        loop_isolated_whole k a s (accepted_programs text a s found) out (all_replies text a s out found w.0))) (run_all (OnInput Sched) r l l' entry exit x status is)
 
     schedules_two_whole : (k : Label) (other : List ℕ) → OnWhole status (OnTwoScheduled k other before_run after_run (λ a s b t out. TwoLoopsWhole k a s b t out))
     schedules_two_whole k other = whole_gives status _ _ (reported_gives before_run after_run _ _ (λ text out trail w a s found b t found' same.
-        two_loops_whole k a s (accepted_programs text a s found) b t (accepted_programs other b t found') same out (all_replies text a s out found w.0))) (run_all Sched r l l' entry exit x status is)
+        two_loops_whole k a s (accepted_programs text a s found) b t (accepted_programs other b t found') same out (all_replies text a s out found w.0))) (run_all (OnInput Sched) r l l' entry exit x status is)
 
     -- what `lineage` has to write of the trail
     schedules_answered_yes : OnWhole status (OnScheduled before_run after_run (λ a s out trail. length trail ≤ MAX_INPUT → AnsweredYes (session_by a s) trail))
     schedules_answered_yes =
-        whole_gives status WholeSent _ (λ all. reported_gives before_run after_run _ _ answered (reported_both before_run after_run _ _ all schedules_printed_by_any)) (run_all Sched r l l' entry exit x status is)
+        whole_gives status WholeSent _ (λ all. reported_gives before_run after_run _ _ answered (reported_both before_run after_run _ _ all schedules_printed_by_any)) (run_all (OnInput Sched) r l l' entry exit x status is)
       where
-        answered : (text out trail : List ℕ) → ((out ≡ out_of (due Sched text).order) × (trail ≡ trail_of (due Sched text).order)) × WhereScheduled text (λ a s. PrintedByAny (session_by a s) out trail)
+        answered : (text out trail : List ℕ) → ((out ≡ out_of (due (OnInput Sched) text).order) × (trail ≡ trail_of (due (OnInput Sched) text).order)) × WhereScheduled text (λ a s. PrintedByAny (session_by a s) out trail)
             → WhereScheduled text (λ a s. length trail ≤ MAX_INPUT → AnsweredYes (session_by a s) trail)
         answered text out trail both a s found =
             let own : IsTrailOf (session_by a s) (numbered_recs (session_by a s)) trail = (both.1 a s found).own (goes_on (session_by a s) out (out_of_all text a s out found both.0.0)) in

@@ -39,10 +39,12 @@ use Rattle.lab_engine.proofs.LeftLemmas.{nothing_left}
 use Rattle.lab_engine.proofs.ReadLemmas.{counts_failed}
 use Rattle.lab_engine.proofs.Sending.{in_order, passes_on, prefix_nothing}
 use Rattle.labsys.specs.declared.command.Command.{Command}
-use Rattle.labsys.specs.declared.command.Command.TheVariants.{Lineage, Play, Select}
+use Rattle.labsys.specs.declared.command.Command.TheVariants.{Lineage, OnInput, Select}
+use Rattle.labsys.specs.declared.command.InputCommand.TheVariants.{Play}
 use Rattle.labsys.specs.declared.trails.ReadTrail.{ReadTrail}
 use Rattle.labsys.specs.declared.trails.ReadTrail.TheVariants as read_is
-use Rattle.labsys.specs.Commands.{Due, due, ends_with}
+use Rattle.labsys.specs.Commands.{due}
+use Rattle.labsys.specs.Plans.{Due, ends_with}
 use Rattle.labsys.specs.Playing.{Besides, CommandDid}
 use Rattle.labsys.specs.Trails.{IfTrail, ReadsTrail, ending_of_error, trail_by, trail_in}
 use Rattle.labsys.proofs.WorldLemmas.{failed_ending}
@@ -184,17 +186,17 @@ line_fits t head head_is few l fails_if at why is =
 
 -- ---- a command that reads a trail
 
-pub select_is_not_play : (word : List ℕ) → Select word ≡ Play → ⊥
+pub select_is_not_play : (word : List ℕ) → Select word ≡ OnInput Play → ⊥
 select_is_not_play word is = absurd (cc)
 
-pub lineage_is_not_play : Lineage ≡ Play → ⊥
+pub lineage_is_not_play : Lineage ≡ OnInput Play → ⊥
 lineage_is_not_play is = absurd (cc)
 
 -- nothing holds besides of a command that reads a trail
 abbrev pub HasNoMore : Command → Type 0
 HasNoMore c = (text : List ℕ) (r : Result InputEnd Fault) (before after : Ends) → Besides c text r before after
 
-module _ (c : Command) (other : c ≡ Play → ⊥) (no_more : HasNoMore c) (r : Result InputEnd Fault) (left left' : Option (List ℕ)) (n n' : ℕ) where
+module _ (c : Command) (other : c ≡ OnInput Play → ⊥) (no_more : HasNoMore c) (r : Result InputEnd Fault) (left left' : Option (List ℕ)) (n n' : ℕ) where
   -- memory ran out, or a read failed, before a trail was read
   pub trail_fails : (fault : Fault) (o t : SinkView) → ReadsTrail (Err fault) left left' → counts n' o.faults t.faults ≡ counted_by fault (counts n o.faults t.faults) → IsErrAnd r (λ q. q ≡ fault) → CommandDid c r left left' (ends n o t) (ends n' o t)
   trail_fails fault o t reads once is = record {

@@ -8,16 +8,12 @@ use Rattle.lab_engine.specs.Order.{IsInOrder}
 use Rattle.lab_engine.specs.Playing.{Ends, ends}
 use Rattle.lab_engine.proofs.Sending.{stops_at_once}
 use Rattle.labsys.specs.declared.command.Command.{Command}
-use Rattle.labsys.specs.declared.command.Command.TheVariants.{Play, Sched}
 use Rattle.labsys.specs.declared.status.Status.TheVariants as status
 use Rattle.labsys.specs.Clauses.{WhereReported, reports, reports_used}
 use Rattle.labsys.specs.Commands.{LeavesAlone, Unless, due, reads_source, writes_trail}
-use Rattle.labsys.specs.Promises.{Plays}
-use Rattle.labsys.specs.ScheduleClauses.{Schedules}
 use Rattle.labsys.specs.Playing.{CommandDid}
 use Rattle.labsys.proofs.WorldLemmas.{besides_failed}
-use Rattle.labsys.proofs.ClauseLemmas.{run_order, run_play}
-use Rattle.labsys.proofs.ScheduleAnswers.{run_schedules}
+use Rattle.labsys.proofs.ClauseLemmas.{run_order}
 
 -- what holds of each command holds of that which the words name
 pub where_named : (o : Option Command) (P : Command → Type 0) → ((c : Command) → P c) → IfSome o P
@@ -35,7 +31,7 @@ untouched_alone None source out trail s o t = (s, o, t)
 untouched_alone (Some c) source out trail s o t = (unless (reads_source c) source s, unless (writes_trail c) trail t)
 
 -- a command for which memory runs out at once does nothing
-did_nothing : (c : Command) (l : Option (List ℕ)) (e : Ends) → CommandDid c (Err NoMemory) l l e e
+pub did_nothing : (c : Command) (l : Option (List ℕ)) (e : Ends) → CommandDid c (Err NoMemory) l l e e
 did_nothing c l e = record {
   taken = [];
   took = Consumes-nil l;
@@ -44,7 +40,7 @@ did_nothing c l e = record {
   status = tt;
   to_the_end = λ reads. tt;
   by_line = λ play read. absurd (cc);
-  besides = besides_failed c _ (Err NoMemory) NoMemory refl e.source e.source e.out e.trail;
+  besides = besides_failed (Err NoMemory) NoMemory refl e.source e.source e.out e.trail c _;
 }
 
 -- status 6 is not that of a whole input
@@ -65,9 +61,3 @@ module _ (l out trail : Option (List ℕ)) where
   pub untouched_order : (o : Option Command) → IfSome o (λ command. WhereReported (reports_used command (reports l out trail)) (reports_used command (reports l out trail)) (λ text out trail. IsInOrder (due command text).order out trail))
   untouched_order None = tt
   untouched_order (Some c) = run_order c (Err NoMemory) l l still still (did_nothing c l still) (Some c) refl
-
-  pub untouched_play : Plays status.NoMemory (reports l out trail) (reports l out trail)
-  untouched_play = run_play (Err NoMemory) l l still still (did_nothing Play l still) status.NoMemory refl
-
-  pub untouched_schedule : Schedules status.NoMemory (reports l out trail) (reports l out trail)
-  untouched_schedule = run_schedules (Err NoMemory) l l still still (did_nothing Sched l still) status.NoMemory refl

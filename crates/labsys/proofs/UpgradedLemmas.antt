@@ -1,5 +1,6 @@
 -- What is written of an input that is upgraded.
 use Rattle.std.proofs.Common.{◌≡◌, ℕ, List, ◌++◌, sym, ◌∙◌, ap, subst}
+use Rattle.std.proofs.lemmas.Result.{IfOk-weaker}
 use Rattle.std.specs.Prelude.{Option, Some, Result, Ok, Err, IsErrAnd, IfOk}
 use Rattle.io_ends.specs.LinesState.{LinesState, may_take}
 use Rattle.world_text.specs.Written.{text_of_world}
@@ -13,13 +14,13 @@ use Rattle.lab_engine.specs.UpgradeInput.{UpgradeScript}
 use Rattle.lab_engine.specs.Upgrading.{ReadsBack, UpgradesScript}
 use Rattle.lab_engine.specs.Viewing.{unless_whole}
 use Rattle.lab_engine.proofs.Sending.{goes_on, in_order, stops_longer, to_out-append}
-use Rattle.labsys.specs.declared.command.Command.TheVariants.{Upgrade}
+use Rattle.labsys.specs.declared.command.InputCommand.TheVariants.{Upgrade}
 use Rattle.labsys.specs.Clauses.{TakesAtMost}
-use Rattle.labsys.specs.Commands.{ends_with}
+use Rattle.labsys.specs.Plans.{ends_with}
 use Rattle.labsys.specs.Playing.{DoesWorld, WritesLeft, due_left}
 use Rattle.labsys.specs.Upgrading.{upgrade_text}
 use Rattle.labsys.proofs.InputLemmas.{reads_nothing, reads_within}
-use Rattle.labsys.proofs.WorldLemmas.{failed_ending, left_stops, left_written}
+use Rattle.labsys.proofs.WorldLemmas.{failed_ending, left_stops, left_written, some_same}
 
 -- ---- an accepted world
 
@@ -30,7 +31,7 @@ module _ (a : Accepted) where
 
   module _ (r : Result InputEnd Fault) (lines : LinesState) (left : Option (List ℕ)) (before : Ends) where
     upgrade_did : (left' : Option (List ℕ)) (after : Ends) → WritesLeft (due_left Upgrade a lines) r lines left left' before after → IfOk r (λ _. ReadsBack a) → DoesWorld Upgrade r a lines left left' before after
-    upgrade_did left' after wrote back = record { wrote = wrote; by_line = λ play. absurd (cc); besides = back }
+    upgrade_did left' after wrote back = record { wrote = wrote; by_line = λ play. absurd (cc); besides = IfOk-weaker r _ _ (λ e reads b same. subst ReadsBack (some_same a b same) reads) back }
 
     -- the world was not written
     pub world_fails : (fault : Fault) (after : Ends) → StopsBy fault (to_out (text_of_world a)) before after → IsErrAnd r (λ q. q ≡ fault) → DoesWorld Upgrade r a lines left left before after

@@ -1,5 +1,5 @@
 -- What a command did with an accepted world, and that it is what is due of the whole input.
-use Rattle.std.proofs.Common.{◌≡◌, ◌⊎◌, inl, inr, ℕ, true, List, [], ◌++◌, sym, ◌∙◌, ap, subst, append_assoc, arith}
+use Rattle.std.proofs.Common.{◌≡◌, inr, ℕ, List, [], ◌++◌, sym, ◌∙◌, ap, subst, append_assoc, arith}
 use Rattle.std.proofs.KnownBytes.{Appends-nil, Consumes-trans}
 use Rattle.std.proofs.lemmas.List.{length-append}
 use Rattle.std.proofs.lemmas.Result.{IfOk-weaker}
@@ -16,27 +16,23 @@ use Rattle.lab_engine.specs.declared.opening.Opened.TheVariants as opened
 use Rattle.lab_engine.specs.declared.opening.OpenedWorld.{OpenedWorld}
 use Rattle.lab_engine.specs.Counts.{Counts, counts, counted_by}
 use Rattle.lab_engine.specs.Input.{Accepted, Input, input_in, input_of}
-use Rattle.lab_engine.specs.Opening.{EndsInput, OpensInput, OpensWorld}
+use Rattle.lab_engine.specs.Opening.{OpensInput}
 use Rattle.lab_engine.specs.Order.{Sent, calls_by, order_of_calls, out_of, to_out, trail_of}
 use Rattle.lab_engine.specs.Playing.{Ends, ends, Sends, SendsAll, StopsBy, Writes}
-use Rattle.lab_engine.specs.Reading.{least_at, left_of, script_at}
+use Rattle.lab_engine.specs.Reading.{left_of, script_at}
 use Rattle.lab_engine.specs.Texts.{last_text}
-use Rattle.lab_engine.specs.UpgradeInput.{UpgradeInput}
-use Rattle.lab_engine.specs.Upgrading.{ReadsBack}
 use Rattle.lab_engine.proofs.Sending.{in_order, not_a_read, passes_on, prefix_nothing}
 use Rattle.world_text.specs.declared.format.Format.{Format}
 use Rattle.labsys.specs.declared.command.Command.{Command}
-use Rattle.labsys.specs.declared.command.Command.TheVariants.{Play, Sched, Check, Gen, Drill, View, Upgrade, Least, Never, Select, Lineage}
+use Rattle.labsys.specs.declared.command.Command.TheVariants.{OnInput, Gen, Drill, Select, Lineage}
+use Rattle.labsys.specs.declared.command.InputCommand.{InputCommand}
+use Rattle.labsys.specs.declared.command.InputCommand.TheVariants.{Play, Sched, Check, View, Upgrade, Least, Never}
 use Rattle.labsys.specs.Clauses.{TakesAtMost}
-use Rattle.labsys.specs.Commands.{Due, due, due_of_check, due_of_least, due_of_never, due_of_play, due_of_sched, due_of_upgrade, due_of_view, ends_with}
-use Rattle.labsys.specs.Least.{NarrowedReadsBack, least_world, needed_by}
-use Rattle.labsys.specs.Playing.{Besides, BesidesLeft, CommandDid, DoesWorld, IsOpened, WritesLeft, due_left, format_of, input_left, reads_input}
-use Rattle.labsys.specs.Readable.{ProgramsReadable}
-use Rattle.labsys.specs.Scheduling.{ProgramInput}
+use Rattle.labsys.specs.Commands.{due}
+use Rattle.labsys.specs.Plans.{Calls, Due, ReadAs, due_of, due_with, ends_with, kind_of, read_left, read_none, read_of}
+use Rattle.labsys.specs.Playing.{Besides, BesidesOf, CommandDid, DoesWorld, IsOpened, WritesLeft, due_left, format_of}
 use Rattle.labsys.proofs.AcceptedLemmas.{accepted_in}
-use Rattle.labsys.proofs.InputLemmas.{due_without_world, no_calls}
-use Rattle.labsys.proofs.ProgramInputs.{no_programs, programs_left}
-use Rattle.labsys.proofs.ReadableLemmas.{input_played, input_without_world}
+use Rattle.labsys.proofs.InputLemmas.{due_without_world, ended_input, no_calls, opened_input}
 
 -- ---- a run that failed
 module _ (r : Result InputEnd Fault) (fault : Fault) (is : IsErrAnd r (λ q. q ≡ fault)) where
@@ -113,80 +109,48 @@ module _ {format : Format} (x : Opened) (left between : Option (List ℕ)) (open
       let fits = accepted_in format (begun.taken ++ []) w.read (ap (λ (i : Input). i.accepted) (begun.shows.says [])) in
       record { world = fits.world; top = fits.top; more = begun.shows.more; small = begun.shows.small }
 
--- what is due of the whole input is what is due of what is left after its world
-due_opened : (c : Command) → reads_input c ≡ true → (taken : List ℕ) (w : OpenedWorld) → OpensWorld (format_of c) taken w → (more : List ℕ) → due c (taken ++ more) ≡ due_left c w.read w.lines more
-due_opened Play reads taken w opens more = ap due_of_play (opens.says more)
-due_opened Sched reads taken w opens more = ap due_of_sched (programs_left (taken ++ more) w.read w.lines more (opens.begun more))
-due_opened Check reads taken w opens more = ap due_of_check (opens.says more)
-due_opened (Gen n) reads taken w opens more = absurd (cc)
-due_opened (Drill n) reads taken w opens more = absurd (cc)
-due_opened (View word) reads taken w opens more = ap (due_of_view word) (opens.says more)
-due_opened Upgrade reads taken w opens more = ap due_of_upgrade (opens.keeps more)
-due_opened Least reads taken w opens more = ap due_of_least (opens.least more)
-due_opened Never reads taken w opens more = ap due_of_never (opens.says more)
-due_opened (Select word) reads taken w opens more = absurd (cc)
-due_opened Lineage reads taken w opens more = absurd (cc)
-
-some_same : (v a : Accepted) → Some v ≡ Some a → v ≡ a
+pub some_same : (v a : Accepted) → Some v ≡ Some a → v ≡ a
 some_same v a e = cc
 
--- and so is what holds besides
-besides_opened : (c : Command) → reads_input c ≡ true → (taken : List ℕ) (w : OpenedWorld) → OpensWorld (format_of c) taken w → (more : List ℕ) (r : Result InputEnd Fault) (before after : Ends)
-    → BesidesLeft c w.read w.lines more r before after → Besides c (taken ++ more) r before after
-besides_opened Play reads taken w opens more r before after did = input_played (input_of (taken ++ more)) before after w.read (script_at w.read.policy w.lines more) (opens.says more) did
-besides_opened Sched reads taken w opens more r before after did =
-    subst (λ (i : ProgramInput). ProgramsReadable i before after) (sym (programs_left (taken ++ more) w.read w.lines more (opens.begun more))) did
-besides_opened Check reads taken w opens more r before after did = tt
-besides_opened (Gen n) reads taken w opens more r before after did = absurd (cc)
-besides_opened (Drill n) reads taken w opens more r before after did = absurd (cc)
-besides_opened (View word) reads taken w opens more r before after did = tt
-besides_opened Upgrade reads taken w opens more r before after did =
-    IfOk-weaker r _ _ (λ e back a accepted. let both : Some w.read ≡ Some a = sym (ap (λ (i : UpgradeInput). i.accepted) (opens.keeps more)) ∙ accepted in subst ReadsBack (some_same w.read a both) back) did
-besides_opened Least reads taken w opens more r before after did =
-    IfOk-weaker r _ _ (λ e back. subst (λ (i : Input). NarrowedReadsBack i e) (sym (opens.least more))
-    (λ whole a accepted. subst (λ (b : Accepted). ReadsBack (least_world b (needed_by b (least_at w.read.policy w.lines more)))) (some_same w.read a accepted) (back whole))) did
-besides_opened Never reads taken w opens more r before after did = tt
-besides_opened (Select word) reads taken w opens more r before after did = absurd (cc)
-besides_opened Lineage reads taken w opens more r before after did = absurd (cc)
+-- ---- what holds besides
 
 -- without a world there is nothing besides
-besides_ended : (c : Command) → reads_input c ≡ true → (left : Option (List ℕ)) (taken : List ℕ) (ending : InputEnd) → EndsInput (format_of c) left taken ending → (r : Result InputEnd Fault) (before after : Ends) → IfOk r (λ e. e ≡ ending)
-    → Besides c (taken ++ left_of left) r before after
-besides_ended Play reads left taken ending ended r before after same = input_without_world (input_of (taken ++ left_of left)) before after ending ended.says
-besides_ended Sched reads left taken ending ended r before after same =
-    subst (λ (i : ProgramInput). ProgramsReadable i before after) (sym (no_programs (taken ++ left_of left) ending ended.says)) (λ a s no. absurd (cc))
-besides_ended Check reads left taken ending ended r before after same = tt
-besides_ended (Gen n) reads left taken ending ended r before after same = absurd (cc)
-besides_ended (Drill n) reads left taken ending ended r before after same = absurd (cc)
-besides_ended (View word) reads left taken ending ended r before after same = tt
-besides_ended Upgrade reads left taken ending ended r before after same =
-    IfOk-weaker r _ _ (λ e is a accepted. let no : None ≡ Some a = sym (ap (λ (i : UpgradeInput). i.accepted) ended.keeps) ∙ accepted in absurd (cc)) same
-besides_ended Least reads left taken ending ended r before after same =
-    IfOk-weaker r _ _ (λ e is whole a accepted. let no : None ≡ Some a = sym (ap (λ (i : Input). i.accepted) ended.least) ∙ accepted in absurd (cc)) same
-besides_ended Never reads left taken ending ended r before after same = tt
-besides_ended (Select word) reads left taken ending ended r before after same = absurd (cc)
-besides_ended Lineage reads left taken ending ended r before after same = absurd (cc)
+besides_none : (c : InputCommand) (ending : InputEnd) (r : Result InputEnd Fault) (before after : Ends) → IfOk r (λ e. e ≡ ending) → BesidesOf c (read_none (kind_of c) ending) r before after
+besides_none Play ending r before after same = λ a accepted. absurd (cc)
+besides_none Sched ending r before after same = λ a s no. absurd (cc)
+besides_none Check ending r before after same = tt
+besides_none (View word) ending r before after same = tt
+besides_none Upgrade ending r before after same = IfOk-weaker r _ _ (λ e is a accepted. absurd (cc)) same
+besides_none Least ending r before after same = IfOk-weaker r _ _ (λ e is whole a accepted. absurd (cc)) same
+besides_none Never ending r before after same = tt
 
--- nor where nothing was written before a fault
-pub besides_failed : (c : Command) (text : List ℕ) (r : Result InputEnd Fault) (fault : Fault) → IsErrAnd r (λ q. q ≡ fault) → (n n' : ℕ) (o t : SinkView) → Besides c text r (ends n o t) (ends n' o t)
-besides_failed Play text r fault is n n' o t = λ a accepted. inr (prefix_nothing _ n n' o t)
-besides_failed Sched text r fault is n n' o t = λ a s scheduled. inr (prefix_nothing _ n n' o t)
-besides_failed Check text r fault is n n' o t = tt
-besides_failed (Gen k) text r fault is n n' o t = tt
-besides_failed (Drill k) text r fault is n n' o t = tt
-besides_failed (View word) text r fault is n n' o t = tt
-besides_failed Upgrade text r fault is n n' o t = failed_ending r fault is _
-besides_failed Least text r fault is n n' o t = failed_ending r fault is _
-besides_failed Never text r fault is n n' o t = tt
-besides_failed (Select word) text r fault is n n' o t = tt
-besides_failed Lineage text r fault is n n' o t = tt
+module _ (r : Result InputEnd Fault) (fault : Fault) (is : IsErrAnd r (λ q. q ≡ fault)) (n n' : ℕ) (o t : SinkView) where
+  -- nor where nothing was written before a fault
+  input_failed : (c : InputCommand) (i : ReadAs (kind_of c)) → BesidesOf c i r (ends n o t) (ends n' o t)
+  input_failed Play i = λ a accepted. inr (prefix_nothing _ n n' o t)
+  input_failed Sched i = λ a s scheduled. inr (prefix_nothing _ n n' o t)
+  input_failed Check i = tt
+  input_failed (View word) i = tt
+  input_failed Upgrade i = failed_ending r fault is _
+  input_failed Least i = failed_ending r fault is _
+  input_failed Never i = tt
+
+  pub besides_failed : (c : Command) (text : List ℕ) → Besides c text r (ends n o t) (ends n' o t)
+  besides_failed (OnInput c) text = input_failed c (read_of (kind_of c) text)
+  besides_failed (Gen k) text = tt
+  besides_failed (Drill k) text = tt
+  besides_failed (Select word) text = tt
+  besides_failed Lineage text = tt
 
 -- ---- what a command did with an input
 
-module _ (c : Command) (reads : reads_input c ≡ true) (format : Format) (same : format ≡ format_of c) where
+own_command : (c d : InputCommand) → OnInput c ≡ OnInput d → c ≡ d
+own_command c d same = cc
+
+module _ (c : InputCommand) (format : Format) (same : format ≡ format_of c) where
   -- memory ran out, or a read failed, before a world was read
   pub open_fails : (r : Result InputEnd Fault) (fault : Fault) (left left' : Option (List ℕ)) → OpensInput format (Err fault) left left' → (n n' : ℕ) (o t : SinkView)
-      → counts n' o.faults t.faults ≡ counted_by fault (counts n o.faults t.faults) → IsErrAnd r (λ q. q ≡ fault) → CommandDid c r left left' (ends n o t) (ends n' o t)
+      → counts n' o.faults t.faults ≡ counted_by fault (counts n o.faults t.faults) → IsErrAnd r (λ q. q ≡ fault) → CommandDid (OnInput c) r left left' (ends n o t) (ends n' o t)
   open_fails r fault left left' opens n n' o t once is = record {
     taken = opens.taken;
     took = opens.took;
@@ -195,9 +159,9 @@ module _ (c : Command) (reads : reads_input c ≡ true) (format : Format) (same 
     status = failed_ending r fault is _;
     to_the_end = λ _. failed_ending r fault is _;
     by_line = λ play read.
-        let none = subst (λ (f : Format). (input_in f opens.taken).accepted ≡ None) (same ∙ ap format_of play) (opens.shows (failed_read r fault is read)) in
+        let none = subst (λ (f : Format). (input_in f opens.taken).accepted ≡ None) (same ∙ ap format_of (own_command c Play play)) (opens.shows (failed_read r fault is read)) in
         subst (λ (o' : List Sent). Sends o' (ends n o t) (ends n' o t)) (sym (no_calls (input_of opens.taken) none)) (nothing_sent n n' o t);
-    besides = besides_failed c _ r fault is n n' o t;
+    besides = besides_failed r fault is n n' o t (OnInput c) _;
   }
 
   module _ (x : Opened) (left between : Option (List ℕ)) (opens : OpensInput format (Ok x) left between) (n n' : ℕ) (o t : SinkView) (still : (u v : ℕ) → counts n' u v ≡ counts n u v) where
@@ -222,33 +186,34 @@ module _ (c : Command) (reads : reads_input c ≡ true) (format : Format) (same 
         text_is : text ≡ world.taken ++ (taken ++ left_of left')
         text_is = append_assoc world.taken taken (left_of left')
 
-        is_due : due c text ≡ due_left c w.read w.lines (taken ++ left_of left')
-        is_due = ap (λ (z : List ℕ). due c z) text_is ∙ due_opened c reads world.taken w world.shows (taken ++ left_of left')
+        is_due : due (OnInput c) text ≡ due_left c w.read w.lines (taken ++ left_of left')
+        is_due = ap (λ (z : List ℕ). due (OnInput c) z) text_is ∙ ap (due_of c) (opened_input (kind_of c) world.taken w world.shows (taken ++ left_of left'))
 
         -- where a read of `play` failed, the calls in the bytes that were taken
-        line_by_line : c ≡ Play → r ≡ Err Read → Sends (order_of_calls (input_of (world.taken ++ taken))) (ends n o t) after
-        line_by_line play read =
-            let says = subst (λ (f : Format). input_in f (world.taken ++ taken) ≡ input_left w.read w.lines taken) (ap format_of play) (world.shows.says taken) in
+        line_by_line : OnInput c ≡ OnInput Play → r ≡ Err Read → Sends (order_of_calls (input_of (world.taken ++ taken))) (ends n o t) after
+        line_by_line named read =
+            let play = own_command c Play named in
+            let says = subst (λ (f : Format). input_in f (world.taken ++ taken) ≡ read_left Calls w.read w.lines taken) (ap format_of play) (world.shows.says taken) in
             subst (λ (order : List Sent). Sends order (ends n o t) after) (sym (ap order_of_calls says))
             (subst (λ k. Sends (calls_by (Some w.read) (script_at w.read.policy w.lines taken)) (ends k o t) after) source_is (did.by_line play read))
 
-        pub did_world : CommandDid c r left left' (ends n o t) after
+        pub did_world : CommandDid (OnInput c) r left left' (ends n o t) after
         did_world = record {
           taken = world.taken ++ taken;
           took = Consumes-trans left between left' world.taken taken world.took did.wrote.reads.took;
           few = omega (arith, world.shows.within, did.wrote.reads.few, length-append world.taken taken);
-          writes = subst (λ k. Writes r (due c text).order (ends k o t) after) source_is
+          writes = subst (λ k. Writes r (due (OnInput c) text).order (ends k o t) after) source_is
               (in_order r _ _ (ends n' o t) after (sym (ap (λ (d : Due). d.order) is_due)) did.wrote.writes);
           status = IfOk-weaker r _ _ (λ e is. is ∙ sym (ap (λ (d : Due). d.status) is_due)) did.wrote.status;
           to_the_end = λ _. did.wrote.to_the_end;
           by_line = line_by_line;
-          besides = subst (λ k. Besides c text r (ends k o t) after) source_is (subst (λ (z : List ℕ). Besides c z r (ends n' o t) after) (sym text_is)
-              (besides_opened c reads world.taken w world.shows (taken ++ left_of left') r (ends n' o t) after did.besides));
+          besides = subst (λ k. Besides (OnInput c) text r (ends k o t) after) source_is (subst (λ (z : List ℕ). Besides (OnInput c) z r (ends n' o t) after) (sym text_is)
+              (subst (λ i. BesidesOf c i r (ends n' o t) after) (sym (opened_input (kind_of c) world.taken w world.shows (taken ++ left_of left'))) did.besides));
         }
 
       -- the same of a command that is the one which did it
-      pub did_as : (d : Command) → c ≡ d → DoesWorld d r w.read w.lines between left' (ends n' o t) after → CommandDid c r left left' (ends n o t) after
-      did_as d same did = did_world (subst (λ (k : Command). DoesWorld k r w.read w.lines between left' (ends n' o t) after) (sym same) did)
+      pub did_as : (d : InputCommand) → c ≡ d → DoesWorld d r w.read w.lines between left' (ends n' o t) after → CommandDid (OnInput c) r left left' (ends n o t) after
+      did_as d same did = did_world (subst (λ (k : InputCommand). DoesWorld k r w.read w.lines between left' (ends n' o t) after) (sym same) did)
 
     -- it wrote the last line, where the input ended before its world did
     module _ (ending : InputEnd) (is : x ≡ opened.Ended ending) where
@@ -256,33 +221,22 @@ module _ (c : Command) (reads : reads_input c ≡ true) (format : Format) (same 
       ended = subst (λ k. OpensInput (format_of c) (Ok k) left between) is own
 
       pub did_without_world : (r : Result InputEnd Fault) (o' : SinkView) → ((source : ℕ) (trail : SinkView) → Writes r (to_out (last_text 0 ending)) (ends source o trail) (ends source o' trail)) → IfOk r (λ e. e ≡ ending)
-          → CommandDid c r left between (ends n o t) (ends n' o' t)
+          → CommandDid (OnInput c) r left between (ends n o t) (ends n' o' t)
       did_without_world r o' writes is =
           let text = ended.taken ++ left_of between in
-          let is_due : due c text ≡ record { order = to_out (last_text 0 ending); status = ends_with ending } = due_without_world c reads between ended.taken ending ended.shows in
+          let is_due : due (OnInput c) text ≡ due_with (to_out (last_text 0 ending)) ending = ap (due_of c) (ended_input (kind_of c) between ended.taken ending ended.shows) ∙ due_without_world c ending in
           record {
             taken = ended.taken;
             took = ended.took;
             few = ended.few;
-            writes = subst (λ k. Writes r (due c text).order (ends k o t) (ends n' o' t)) source_is
+            writes = subst (λ k. Writes r (due (OnInput c) text).order (ends k o t) (ends n' o' t)) source_is
                 (in_order r _ _ (ends n' o t) (ends n' o' t) (sym (ap (λ (d : Due). d.order) is_due)) (writes n' t));
             status = IfOk-weaker r _ _ (λ e same. ap ends_with same ∙ sym (ap (λ (d : Due). d.status) is_due)) is;
             to_the_end = λ _. IfOk-weaker r _ _ (λ e same whole. ended.shows.to_the_end (sym same ∙ whole)) is;
             by_line = λ _ read. absurd (no_read r (to_out (last_text 0 ending)) o o' (writes 0 t) read);
-            besides = besides_ended c reads between ended.taken ending ended.shows r (ends n o t) (ends n' o' t) is;
+            besides = subst (λ i. BesidesOf c i r (ends n o t) (ends n' o' t)) (sym (ended_input (kind_of c) between ended.taken ending ended.shows)) (besides_none c ending r (ends n o t) (ends n' o' t) is);
           }
         where
           no_read : (y : Result InputEnd Fault) (order : List Sent) (o o' : SinkView) → Writes y order (ends 0 o t) (ends 0 o' t) → y ≡ Err Read → ⊥
           no_read (Ok e) order o o' w read = absurd (cc)
           no_read (Err fault) order o o' w read = let same : fault ≡ Read = cc in not_a_read fault order o o' t t w same
-
--- ---- which commands read an input
-
-pub reads_one : (c : Command) (word : List ℕ) → (c ≡ Play) ⊎ ((c ≡ Sched) ⊎ ((c ≡ Check) ⊎ (((w : List ℕ) × (c ≡ View w)) ⊎ ((c ≡ Upgrade) ⊎ ((c ≡ Least) ⊎ (c ≡ Never)))))) → reads_input c ≡ true
-reads_one c word (inl is) = ap reads_input is
-reads_one c word (inr (inl is)) = ap reads_input is
-reads_one c word (inr (inr (inl is))) = ap reads_input is
-reads_one c word (inr (inr (inr (inl (w, is))))) = ap reads_input is
-reads_one c word (inr (inr (inr (inr (inl is))))) = ap reads_input is
-reads_one c word (inr (inr (inr (inr (inr (inl is)))))) = ap reads_input is
-reads_one c word (inr (inr (inr (inr (inr (inr is)))))) = ap reads_input is

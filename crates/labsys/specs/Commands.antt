@@ -10,26 +10,16 @@ use Rattle.gen_world.specs.Text.{gen_text}
 use Rattle.lab_text.specs.Names.{same_bytes}
 use Rattle.lab_usage.specs.Words.{Given, given_words}
 use Rattle.labsys.specs.declared.command.Command.{Command}
-use Rattle.labsys.specs.declared.command.Command.TheVariants.{Play, Sched, Check, Gen, Drill, View, Upgrade, Least, Never, Select, Lineage}
-use Rattle.lab_engine.specs.declared.ending.InputEnd.{InputEnd}
-use Rattle.lab_engine.specs.declared.ending.InputEnd.TheVariants.{Whole, Refused as IsRefused, RefusedWord, TooMuch}
-use Rattle.labsys.specs.Checking.{order_of_check}
+use Rattle.labsys.specs.declared.command.Command.TheVariants.{OnInput, Gen, Drill, Select, Lineage}
+use Rattle.labsys.specs.declared.command.InputCommand.TheVariants.{Play, Sched, Check, View, Upgrade, Least, Never}
+use Rattle.lab_engine.specs.declared.ending.InputEnd.TheVariants.{Whole}
 use Rattle.labsys.specs.Drilling.{drilled_text}
-use Rattle.labsys.specs.Least.{order_of_least}
-use Rattle.labsys.specs.Never.{order_of_never}
+use Rattle.labsys.specs.Plans.{Due, due_of, due_with, read_of, kind_of}
 use Rattle.labsys.specs.LineageText.{ending_of_lineage, text_of_lineage}
-use Rattle.labsys.specs.Scheduling.{ProgramInput, ending_of_programs, order_of_programs, programs_of}
 use Rattle.labsys.specs.Selecting.{ending_by_word, text_of_select}
 use Rattle.labsys.specs.Trails.{trail_in}
-use Rattle.labsys.specs.Upgrading.{order_of_upgrade}
-use Rattle.labsys.specs.Viewing.{ending_of_view, text_of_view}
-use Rattle.labsys.specs.declared.status.Status.{Status}
-use Rattle.labsys.specs.declared.status.Status.TheVariants.{Done, Refused, TooLong}
 use Rattle.labsys.specs.declared.trails.ReadTrail.{ReadTrail}
-use Rattle.lab_engine.specs.Input.{Input, input_of}
-use Rattle.lab_engine.specs.LeastInput.{least_of}
-use Rattle.lab_engine.specs.Order.{Sent, order_of, to_out}
-use Rattle.lab_engine.specs.UpgradeInput.{UpgradeInput, upgrade_of}
+use Rattle.lab_engine.specs.Order.{to_out}
 
 -- ---- words
 
@@ -63,15 +53,15 @@ a_number command (Some word) = option_map command (lines_of word)
 -- the commands: the word of each, and what stands after it
 abbrev pub commands : List (List ℕ × After)
 commands =
-    (codes "play", a_file Play)
-    ∷ (codes "sched", a_file Sched)
-    ∷ (codes "view", a_word View)
-    ∷ (codes "check", nothing Check)
+    (codes "play", a_file (OnInput Play))
+    ∷ (codes "sched", a_file (OnInput Sched))
+    ∷ (codes "view", a_word (λ word. OnInput (View word)))
+    ∷ (codes "check", nothing (OnInput Check))
     ∷ (codes "gen", a_number Gen)
     ∷ (codes "drill", a_number Drill)
-    ∷ (codes "upgrade", nothing Upgrade)
-    ∷ (codes "least", nothing Least)
-    ∷ (codes "never", nothing Never)
+    ∷ (codes "upgrade", nothing (OnInput Upgrade))
+    ∷ (codes "least", nothing (OnInput Least))
+    ∷ (codes "never", nothing (OnInput Never))
     ∷ (codes "select", a_word Select)
     ∷ (codes "lineage", nothing Lineage)
     ∷ []
@@ -93,68 +83,19 @@ FitsCommand command = Unit {0}
 
 -- ---- what is due
 
--- the status by how an input ends
-abbrev pub ends_with : InputEnd → Status
-ends_with Whole = Done
-ends_with (IsRefused n part why) = Refused
-ends_with (RefusedWord word why) = Refused
-ends_with TooMuch = TooLong
-
--- what is due: the bytes in order, each with its sink, and the status where all of them are written
-pub record Due : Type 0 where
-  pub order : List Sent
-  pub status : Status
-
--- what is due of an input that is played
-abbrev pub due_of_play : Input → Due
-due_of_play i = record { order = order_of i; status = ends_with i.script.ending }
-
--- what is due of an input of programs
-abbrev pub due_of_sched : ProgramInput → Due
-due_of_sched i = record { order = order_of_programs i; status = ends_with (ending_of_programs i) }
-
--- what is due of an input that is read and not played
-abbrev pub due_of_check : Input → Due
-due_of_check i = record { order = order_of_check i; status = ends_with i.script.ending }
-
--- what is due of an input that is viewed from the label of a word
-abbrev pub due_of_view : List ℕ → Input → Due
-due_of_view word i = record {
-  order = to_out (text_of_view word i.accepted i.script);
-  status = ends_with (ending_of_view word i.accepted i.script.ending);
-}
-
--- what is due of an input that is upgraded
-abbrev pub due_of_upgrade : UpgradeInput → Due
-due_of_upgrade i = record { order = order_of_upgrade i; status = ends_with i.script.ending }
-
--- what is due of an input whose capabilities are narrowed
-abbrev pub due_of_least : Input → Due
-due_of_least i = record { order = order_of_least i; status = ends_with i.script.ending }
-
--- what is due of an input of which it is written what no script can do
-abbrev pub due_of_never : Input → Due
-due_of_never i = record { order = order_of_never i; status = ends_with i.script.ending }
-
 -- what is due of a trail of which a word picks records
 abbrev pub due_of_select : List ℕ → ReadTrail → Due
-due_of_select word t = record { order = to_out (text_of_select word t); status = ends_with (ending_by_word word t) }
+due_of_select word t = due_with (to_out (text_of_select word t)) (ending_by_word word t)
 
 -- what is due of a trail whose records may follow one another or not
 abbrev pub due_of_lineage : ReadTrail → Due
-due_of_lineage t = record { order = to_out (text_of_lineage t); status = ends_with (ending_of_lineage t) }
+due_of_lineage t = due_with (to_out (text_of_lineage t)) (ending_of_lineage t)
 
 -- what is due of a command, by the bytes of the source
 abbrev pub due : Command → List ℕ → Due
-due Play text = due_of_play (input_of text)
-due Sched text = due_of_sched (programs_of text)
-due Check text = due_of_check (input_of text)
-due (Gen n) text = record { order = to_out (gen_text n); status = Done }
-due (Drill n) text = record { order = to_out (drilled_text n); status = Done }
-due (View word) text = due_of_view word (input_of text)
-due Upgrade text = due_of_upgrade (upgrade_of text)
-due Least text = due_of_least (least_of text)
-due Never text = due_of_never (input_of text)
+due (OnInput c) text = due_of c (read_of (kind_of c) text)
+due (Gen n) text = due_with (to_out (gen_text n)) Whole
+due (Drill n) text = due_with (to_out (drilled_text n)) Whole
 due (Select word) text = due_of_select word (trail_in text)
 due Lineage text = due_of_lineage (trail_in text)
 
@@ -168,8 +109,8 @@ reads_source command = true
 
 -- whether a command writes to the trail
 abbrev pub writes_trail : Command → Bool
-writes_trail Play = true
-writes_trail Sched = true
+writes_trail (OnInput Play) = true
+writes_trail (OnInput Sched) = true
 writes_trail command = false
 
 -- this holds unless the test does

@@ -8,9 +8,10 @@ pub mod Trails
 pub mod Selecting
 pub mod LineageText
 pub mod Scheduling
+pub mod Readable
+pub mod Plans
 pub mod Commands
 pub mod Counts
-pub mod Readable
 pub mod Playing
 pub mod Clauses
 pub mod Lineage

@@ -13,7 +13,8 @@ use Rattle.lab_engine.specs.Order.{out_of, trail_of}
 use Rattle.lab_engine.specs.Session.{numbered_recs, session_of}
 use Rattle.lab_engine.specs.Viewing.{session_alone, view_text}
 use Rattle.lab_engine.specs.Upgrading.{UpgradedTo}
-use Rattle.labsys.specs.declared.command.Command.TheVariants.{Least, Lineage, Never, Play, Upgrade, View}
+use Rattle.labsys.specs.declared.command.Command.TheVariants.{Lineage, OnInput}
+use Rattle.labsys.specs.declared.command.InputCommand.TheVariants.{Least, Never, Play, Upgrade, View}
 use Rattle.labsys.specs.declared.status.Status.{Status}
 use Rattle.labsys.specs.declared.status.Status.TheVariants.{Done, ReadFault}
 use Rattle.labsys.specs.Commands.{due}
@@ -68,7 +69,7 @@ pub record Plays (status : Status) (old now : Reports) : Type 0 where
 pub record Views (word : List ℕ) (status : Status) (old now : Reports) : Type 0 where
   -- Where no record of the whole run crosses the label, `view` writes what it writes of the part below the label alone.
   pub view_alone : (l : Label) → status ≡ Done
-      → OnAccepted (reports_used (View word) old) (reports_used (View word) now)
+      → OnAccepted (reports_used (OnInput (View word)) old) (reports_used (OnInput (View word)) now)
       (λ a script out trail. parse_label a.policy word ≡ Some l → up_to l (run_of a script) ≡ run_of a script
       → out ≡ view_text l (session_alone l a script))
 
@@ -77,7 +78,7 @@ pub record Upgrades (status : Status) (old now : Reports) : Type 0 where
   -- The output is the canonical text of the world, and after it each line behind the line `script`, unchanged. Where no
   -- line is too long, nor the output as a whole, it is the same input.
   pub upgraded : status ≡ Done
-      → WhereReported (reports_used Upgrade old) (reports_used Upgrade now) (λ text out trail. UpgradedTo text out)
+      → WhereReported (reports_used (OnInput Upgrade) old) (reports_used (OnInput Upgrade) now) (λ text out trail. UpgradedTo text out)
 
 -- a run of `least`, with this status
 pub record Narrows (status : Status) (old now : Reports) : Type 0 where
@@ -85,12 +86,12 @@ pub record Narrows (status : Status) (old now : Reports) : Type 0 where
   -- without them. Where no line is too long, nor the output with all that stands behind the line `script`, these two
   -- are an input with that world and the same calls, and each call gets the same reply.
   pub narrowed : status ≡ Done
-      → WhereReported (reports_used Least old) (reports_used Least now) (λ text out trail. NarrowedTo text out)
+      → WhereReported (reports_used (OnInput Least) old) (reports_used (OnInput Least) now) (λ text out trail. NarrowedTo text out)
 
 -- what `never` says of an accepted world holds of an input with this world, whatever script follows it
 pub record HoldsOf (a : Accepted) (other : List ℕ) (script : Script) : Type 0 where
   -- The trail that is due of `play` is the one with the records of the run.
-  pub trail : trail_of (due Play other).order ≡ trail_with (session_of a script) (numbered_recs (session_of a script))
+  pub trail : trail_of (due (OnInput Play) other).order ≡ trail_with (session_of a script) (numbered_recs (session_of a script))
   -- No record of them is an exercise of a capability of the first line.
   pub unexercised : (c : Cap) → has (unexercised a.world) c ≡ true
       → IsUnnamed c (recs_in (numbered_recs (session_of a script)))
@@ -98,12 +99,12 @@ pub record HoldsOf (a : Accepted) (other : List ℕ) (script : Script) : Type 0 
   pub uncrossed : (l : Label) → is_uncrossed l a.world ≡ true → up_to l (run_of a script) ≡ run_of a script
   -- What is due of `view` of such a label is what it writes of the part below the label alone.
   pub viewed : (l : Label) (word : List ℕ) → is_uncrossed l a.world ≡ true → parse_label a.policy word ≡ Some l
-      → out_of (due (View word) other).order ≡ view_text l (session_alone l a script)
+      → out_of (due (OnInput (View word)) other).order ≡ view_text l (session_alone l a script)
 
 -- a run of `never`, with this status
 pub record SaysNever (status : Status) (old now : Reports) : Type 0 where
   -- The output is what is said of the world, and that holds of each input with this world, whatever script follows it.
-  pub for_all : status ≡ Done → OnAccepted (reports_used Never old) (reports_used Never now)
+  pub for_all : status ≡ Done → OnAccepted (reports_used (OnInput Never) old) (reports_used (OnInput Never) now)
       (λ a script out trail. (out ≡ never_text a)
       × ((other : List ℕ) → (input_of other).accepted ≡ Some a → HoldsOf a other (input_of other).script))
 

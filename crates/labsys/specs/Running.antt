@@ -8,7 +8,8 @@ use Rattle.kern_model.specs.declared.limits.TheConstants.{MAX_INPUT}
 use Rattle.lab_engine.specs.Counts.{Counts, counts}
 use Rattle.lab_engine.specs.Order.{IsInOrder, out_of, trail_of}
 use Rattle.labsys.specs.declared.command.Command.{Command}
-use Rattle.labsys.specs.declared.command.Command.TheVariants.{Play, Sched, View, Upgrade, Least, Never, Lineage}
+use Rattle.labsys.specs.declared.command.Command.TheVariants.{OnInput, Lineage}
+use Rattle.labsys.specs.declared.command.InputCommand.TheVariants.{Play, Sched, View, Upgrade, Least, Never}
 use Rattle.labsys.specs.declared.status.Status.{Status}
 use Rattle.labsys.specs.declared.status.Status.TheVariants.{Done, Usage, ReadFault, TrailFault, NoMemory}
 use Rattle.labsys.specs.Clauses.{OnWhole, Reports, TakesAtMost, WhereReported, if_used, reports, reports_used}
@@ -41,6 +42,24 @@ abbrev pub WhereUsed : Command → (old now : RunEnds) → (List ℕ → List �
 WhereUsed command old now P =
     WhereReported (reports_used command (reports_of old)) (reports_used command (reports_of now)) P
 
+-- what a command promises besides, with this status:
+-- * `play`, records before replies, isolation, the capability sets at the end, and a trail of which `lineage` says `yes`;
+-- * `sched`, records before replies, isolation of programs that react, the capability sets at the end, and such a trail;
+-- * `view`, that it writes what it writes of the part below its label alone;
+-- * `upgrade`, the same world and the same script, in the format of today;
+-- * `least`, that the world without the capabilities that the script did not need gives the same replies to it;
+-- * `never`, that what it says of the world holds of each input with this world, whatever script follows it;
+-- * `lineage`, that each record of the trail may come after those before it, or the first that may not is named.
+abbrev pub PromisedBy : Command → Status → Reports → Reports → Type 0
+PromisedBy (OnInput Play) status old now = Plays status old now
+PromisedBy (OnInput Sched) status old now = Schedules status old now
+PromisedBy (OnInput (View word)) status old now = Views word status old now
+PromisedBy (OnInput Upgrade) status old now = Upgrades status old now
+PromisedBy (OnInput Least) status old now = Narrows status old now
+PromisedBy (OnInput Never) status old now = SaysNever status old now
+PromisedBy Lineage status old now = ChecksLineage status old now
+PromisedBy _ status old now = Unit {0}
+
 -- a run of the command that the words name, if they name one, with this status
 pub record Runs (words : List (String Global)) (status : Status) (old now : RunEnds) : Type 0 where
   -- With any status but 6, status 1 comes exactly where the words name no command.
@@ -63,25 +82,9 @@ pub record Runs (words : List (String Global)) (status : Status) (old now : RunE
   pub ending : IfSome (command_of words) (λ command. OnWhole status
       ((text : List ℕ) → if_used (reads_source command) old.source.left ≡ Some text
       → status ≡ (due command text).status))
-  -- What `play` promises besides: records before replies, isolation, the capability sets at the end, and a trail of
-  -- which `lineage` says `yes`.
-  pub play : command_of words ≡ Some Play → Plays status (reports_of old) (reports_of now)
-  -- What `sched` promises besides: records before replies, isolation of programs that react, the capability sets at the
-  -- end, and a trail of which `lineage` says `yes`.
-  pub sched : command_of words ≡ Some Sched → Schedules status (reports_of old) (reports_of now)
-  -- What `view` promises besides: it writes what it writes of the part below its label alone.
-  pub view : (word : List ℕ) → command_of words ≡ Some (View word) → Views word status (reports_of old) (reports_of now)
-  -- What `upgrade` promises besides: the same world and the same script, in the format of today.
-  pub upgrade : command_of words ≡ Some Upgrade → Upgrades status (reports_of old) (reports_of now)
-  -- What `least` promises besides: the world without the capabilities that the script did not need gives the same
-  -- replies to it.
-  pub least : command_of words ≡ Some Least → Narrows status (reports_of old) (reports_of now)
-  -- What `never` promises besides: what it says of the world holds of each input with this world, whatever script
-  -- follows it.
-  pub never : command_of words ≡ Some Never → SaysNever status (reports_of old) (reports_of now)
-  -- What `lineage` promises besides: each record of the trail may come after those before it, or the first that may not
-  -- is named.
-  pub lineage : command_of words ≡ Some Lineage → ChecksLineage status (reports_of old) (reports_of now)
+  -- What each command promises besides.
+  pub promised : IfSome (command_of words)
+      (λ command. PromisedBy command status (reports_of old) (reports_of now))
   -- A command that reads the source reads it to its end where the input was accepted whole.
   pub to_the_end : IfSome (command_of words)
       (λ command. reads_source command ≡ true → status ≡ Done → IsAtEnd now.source.left)

@@ -5,7 +5,7 @@ ghost use Rattle.lab_engine.specs.Playing.{WritesOut, ends};
 ghost use Rattle.labsys.specs.Checking.{checked_text, ok_text};
 ghost use Rattle.labsys.specs.Playing.{DoesWorld, IsOpened};
 
-use crate::Command;
+use crate::InputCommand;
 use io_ends::{Sink, Source};
 use kern_model::{NoMemory, World};
 use lab_engine::{Fault, InputEnd, OpenedWorld, Played, Texts, answer, check_script, report_last};
@@ -58,7 +58,7 @@ pub fn check<S: Source, K: Sink>(
 ) -> Result<InputEnd, Fault>
     requires { IsOpened opened }
     ensures { (trail : SinkView)
-        → DoesWorld Command.Check result opened.read opened.lines (S.view source.old).left (S.view source.new).left
+        → DoesWorld InputCommand.Check result opened.read opened.lines (S.view source.old).left (S.view source.new).left
         (ends (S.view source.old).faults (K.view out.old) trail)
         (ends (S.view source.new).faults (K.view out.new) trail) }
 {

@@ -1,14 +1,6 @@
 // The commands of the program.
 ghost use Rattle.std.specs.Prelude.{◌≡◌, ◌≤◌, IfOk, IfSome};
-ghost use Rattle.labsys.specs.Commands.{
-  FitsCommand,
-  command_in,
-  command_of,
-  commands,
-  lines_of,
-  reads_source,
-  writes_trail,
-};
+ghost use Rattle.labsys.specs.Commands.{FitsCommand, command_in, command_of, commands, lines_of, reads_source, writes_trail};
 
 use fs_path::numeral;
 use gen_world::MAX_LINES;
@@ -46,9 +38,9 @@ impl<'a> Argument<'a> {
     }
 }
 
-/// A command.
+/// A command that reads an input: a world, and what follows it.
 #[derive(Drop)]
-pub enum Command<'a> {
+pub enum InputCommand<'a> {
     /// `play FILE` plays the world and the script that the source holds: the records of each call go to the trail, and
     /// then its reply to the output.
     Play,
@@ -58,10 +50,6 @@ pub enum Command<'a> {
     /// `check` reads the world and the script that the source holds, plays nothing, and writes how many objects,
     /// processes and calls there are.
     Check,
-    /// `gen N` writes the generated input of N lines.
-    Gen(u32),
-    /// `drill N` plays the generated input of N lines, and writes how its calls were answered.
-    Drill(u32),
     /// `view LABEL` plays the world and the script that the source holds, and writes what the label sees of it.
     View(Argument<'a>),
     /// `upgrade` reads the world and the script of the old format that the source holds, and writes them in the format
@@ -73,6 +61,17 @@ pub enum Command<'a> {
     /// `never` reads the world and the script that the source holds, plays nothing, and writes what no script can do in
     /// that world: the capabilities that none exercises, and the labels that nothing ever crosses.
     Never,
+}
+
+/// A command.
+#[derive(Drop)]
+pub enum Command<'a> {
+    /// A command that reads an input from the source.
+    OnInput(InputCommand<'a>),
+    /// `gen N` writes the generated input of N lines.
+    Gen(u32),
+    /// `drill N` plays the generated input of N lines, and writes how its calls were answered.
+    Drill(u32),
     /// `select SPEC` reads the trail that the source holds, and writes the records that SPEC picks as lines of JSON.
     Select(Argument<'a>),
     /// `lineage` reads the trail that the source holds, and writes whether each record may follow those before it.
@@ -91,7 +90,10 @@ impl<'a> Command<'a> {
     pub fn writes_trail(&self) -> bool
         ensures { result ≡ writes_trail self.now }
     {
-        matches!(self, Command::Play | Command::Sched)
+        matches!(
+            self,
+            Command::OnInput(InputCommand::Play | InputCommand::Sched)
+        )
     }
 }
 
@@ -110,15 +112,17 @@ fn command_named<'a>(given: &GivenWords<'a>) -> Option<Command<'a>>
     ensures fits { IfSome result FitsCommand }
 {
     match (given.command(), given.argument()) {
-        ("play", Some(_)) => Some(Command::Play),
-        ("sched", Some(_)) => Some(Command::Sched),
-        ("view", Some(label)) => Some(Command::View(Argument::new(label.as_bytes()))),
-        ("check", None) => Some(Command::Check),
+        ("play", Some(_)) => Some(Command::OnInput(InputCommand::Play)),
+        ("sched", Some(_)) => Some(Command::OnInput(InputCommand::Sched)),
+        ("view", Some(label)) => {
+            Some(Command::OnInput(InputCommand::View(Argument::new(label.as_bytes()))))
+        },
+        ("check", None) => Some(Command::OnInput(InputCommand::Check)),
         ("gen", Some(number)) => Some(Command::Gen(lines_of(number.as_bytes())?)),
         ("drill", Some(number)) => Some(Command::Drill(lines_of(number.as_bytes())?)),
-        ("upgrade", None) => Some(Command::Upgrade),
-        ("least", None) => Some(Command::Least),
-        ("never", None) => Some(Command::Never),
+        ("upgrade", None) => Some(Command::OnInput(InputCommand::Upgrade)),
+        ("least", None) => Some(Command::OnInput(InputCommand::Least)),
+        ("never", None) => Some(Command::OnInput(InputCommand::Never)),
         ("select", Some(spec)) => Some(Command::Select(Argument::new(spec.as_bytes()))),
         ("lineage", None) => Some(Command::Lineage),
         _ => None,

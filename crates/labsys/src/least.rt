@@ -9,7 +9,7 @@ ghost use Rattle.lab_engine.specs.Upgrading.{ReadsBack};
 ghost use Rattle.labsys.specs.Least.{least_text, least_world, needs_text, unneeded_text};
 ghost use Rattle.labsys.specs.Playing.{DoesWorld, IsOpened, NeedsWorld};
 
-use crate::Command;
+use crate::InputCommand;
 use cap_bits::CapSet;
 use cap_clause::set_to_text;
 use io_ends::{Lines, Sink, Source};
@@ -117,7 +117,7 @@ pub fn least<S: Source, K: Sink>(
 ) -> Result<InputEnd, Fault>
     requires { IsOpened opened }
     ensures { (trail : SinkView)
-        → DoesWorld Command.Least result opened.read opened.lines (S.view source.old).left (S.view source.new).left
+        → DoesWorld InputCommand.Least result opened.read opened.lines (S.view source.old).left (S.view source.new).left
         (ends (S.view source.old).faults (K.view out.old) trail)
         (ends (S.view source.new).faults (K.view out.new) trail) }
 {

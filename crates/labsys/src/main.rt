@@ -21,7 +21,7 @@ mod upgrading;
 mod viewing;
 
 use command::command_of;
-pub use command::{Argument, Command};
+pub use command::{Argument, Command, InputCommand};
 use descriptors::{fill_closed, standard_file};
 use io_ends::{FileSink, FileSource};
 pub use running::run;

@@ -30,7 +30,7 @@ ghost use Rattle.labsys.specs.Never.{
 };
 ghost use Rattle.labsys.specs.Playing.{DoesWorld, IsOpened};
 
-use crate::Command;
+use crate::InputCommand;
 use cap_bits::{CapSet, CapState};
 use cap_clause::set_to_text;
 use ever_caps::{Crossers, all_processes, ever, mac_given_to, mac_in};
@@ -306,7 +306,7 @@ pub fn never<S: Source, K: Sink>(
 ) -> Result<InputEnd, Fault>
     requires { IsOpened opened }
     ensures { (trail : SinkView)
-        → DoesWorld Command.Never result opened.read opened.lines (S.view source.old).left (S.view source.new).left
+        → DoesWorld InputCommand.Never result opened.read opened.lines (S.view source.old).left (S.view source.new).left
         (ends (S.view source.old).faults (K.view out.old) trail)
         (ends (S.view source.new).faults (K.view out.new) trail) }
 {

@@ -2,9 +2,8 @@
 ghost use Rattle.std.specs.Prelude.{◌≡◌, true, Some, Err};
 ghost use Rattle.lab_engine.specs.Playing.{ends};
 ghost use Rattle.labsys.specs.Commands.{FitsCommand, LeavesAlone, reads_source, writes_trail};
-ghost use Rattle.labsys.specs.Playing.{CommandDid, format_of, reads_input};
+ghost use Rattle.labsys.specs.Playing.{CommandDid, format_of};
 
-use crate::Command;
 use crate::checking::check;
 use crate::drilling::drill;
 use crate::generating::generate;
@@ -16,17 +15,18 @@ use crate::scheduling::sched;
 use crate::selecting::select;
 use crate::upgrading::upgrade;
 use crate::viewing::view;
+use crate::{Command, InputCommand};
 use io_ends::{Sink, Source};
 use lab_engine::{Fault, InputEnd, Opened, open_input};
 use std::alloc::Global;
 use world_text::Format;
 
 // The format of the input that a command reads.
-fn format_of(command: &Command<'_>) -> Format
+fn format_of(command: &InputCommand<'_>) -> Format
     ensures { result ≡ format_of command.now }
 {
     match command {
-        Command::Upgrade => Format::One,
+        InputCommand::Upgrade => Format::One,
         _ => Format::Two,
     }
 }
@@ -35,34 +35,30 @@ fn format_of(command: &Command<'_>) -> Format
 // without a world it writes the last line.
 fn perform_on_input<S: Source, K: Sink, T: Sink>(
     alloc: Global,
-    command: Command<'_>,
+    command: InputCommand<'_>,
     source: &mut S,
     out: &mut K,
     trail: &mut T,
 ) -> Result<InputEnd, Fault>
-    requires { reads_input command ≡ true }
-    ensures did { CommandDid command.entry result (S.view source.old).left (S.view source.new).left
+    ensures did { CommandDid (Command.OnInput command.entry) result (S.view source.old).left (S.view source.new).left
         (ends (S.view source.old).faults (K.view out.old) (T.view trail.old))
         (ends (S.view source.new).faults (K.view out.new) (T.view trail.new)) }
-    ensures alone { LeavesAlone (Some command.entry) (source.new ≡ source.old) (out.new ≡ out.old)
+    ensures alone { LeavesAlone (Some (Command.OnInput command.entry)) (source.new ≡ source.old) (out.new ≡ out.old)
         (trail.new ≡ trail.old) }
-    ensures trail_fault { result ≡ Err Fault.Trail → writes_trail command.entry ≡ true }
+    ensures trail_fault { result ≡ Err Fault.Trail → writes_trail (Command.OnInput command.entry) ≡ true }
 {
     let opened = match open_input(alloc, format_of(&command), source)? {
         Opened::World(opened) => opened,
         Opened::Ended(ending) => return end_without_world(alloc, ending, out),
     };
     match command {
-        Command::Play => play(alloc, opened, source, out, trail),
-        Command::Sched => sched(alloc, opened, source, out, trail),
-        Command::Check => check(alloc, opened, source, out),
-        Command::View(word) => view(alloc, word, opened, source, out),
-        Command::Upgrade => upgrade(alloc, opened, source, out),
-        Command::Least => least(alloc, opened, source, out),
-        Command::Never => never(alloc, opened, source, out),
-        Command::Gen(_) | Command::Drill(_) | Command::Select(_) | Command::Lineage => {
-            unreachable!()
-        }
+        InputCommand::Play => play(alloc, opened, source, out, trail),
+        InputCommand::Sched => sched(alloc, opened, source, out, trail),
+        InputCommand::Check => check(alloc, opened, source, out),
+        InputCommand::View(word) => view(alloc, word, opened, source, out),
+        InputCommand::Upgrade => upgrade(alloc, opened, source, out),
+        InputCommand::Least => least(alloc, opened, source, out),
+        InputCommand::Never => never(alloc, opened, source, out),
     }
 }
 
@@ -85,6 +81,7 @@ pub fn perform<S: Source, K: Sink, T: Sink>(
     ensures trail_fault { result ≡ Err Fault.Trail → writes_trail command.entry ≡ true }
 {
     match command {
+        Command::OnInput(command) => perform_on_input(alloc, command, source, out, trail),
         Command::Gen(lines) => {
             generate(alloc, lines, out)?;
             Ok(InputEnd::Whole)
@@ -95,12 +92,5 @@ pub fn perform<S: Source, K: Sink, T: Sink>(
         }
         Command::Select(word) => select(alloc, word, source, out),
         Command::Lineage => lineage(alloc, source, out),
-        Command::Play
-        | Command::Sched
-        | Command::Check
-        | Command::View(_)
-        | Command::Upgrade
-        | Command::Least
-        | Command::Never => perform_on_input(alloc, command, source, out, trail),
     }
 }

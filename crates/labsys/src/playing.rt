@@ -5,7 +5,7 @@ ghost use Rattle.lab_engine.specs.Playing.{WritesOut, ends};
 ghost use Rattle.lab_engine.specs.Texts.{caps_in, end_text, ends_text, is_viewed, label_in, last_text};
 ghost use Rattle.labsys.specs.Playing.{DoesWorld, IsOpened};
 
-use crate::Command;
+use crate::InputCommand;
 use crate::session::Session;
 use io_ends::{Sink, Source};
 use kern_core::Kernel;
@@ -100,7 +100,7 @@ pub fn play<S: Source, K: Sink, T: Sink>(
     trail: &mut T,
 ) -> Result<InputEnd, Fault>
     requires { IsOpened opened }
-    ensures { DoesWorld Command.Play result opened.read opened.lines (S.view source.old).left (S.view source.new).left
+    ensures { DoesWorld InputCommand.Play result opened.read opened.lines (S.view source.old).left (S.view source.new).left
         (ends (S.view source.old).faults (K.view out.old) (T.view trail.old))
         (ends (S.view source.new).faults (K.view out.new) (T.view trail.new)) }
 {

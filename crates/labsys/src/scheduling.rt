@@ -9,7 +9,7 @@ ghost use Rattle.labsys.specs.Playing.{DoesWorld, IsOpened};
 ghost use Rattle.labsys.specs.Readable.{RunReadable};
 ghost use Rattle.labsys.specs.Scheduling.{session_by};
 
-use crate::Command;
+use crate::InputCommand;
 use crate::playing::{end_without_world, finish};
 use io_ends::{Sink, Source};
 use kern_core::Kernel;
@@ -65,7 +65,7 @@ pub fn sched<S: Source, K: Sink, T: Sink>(
     trail: &mut T,
 ) -> Result<InputEnd, Fault>
     requires { IsOpened opened }
-    ensures { DoesWorld Command.Sched result opened.read opened.lines (S.view source.old).left (S.view source.new).left
+    ensures { DoesWorld InputCommand.Sched result opened.read opened.lines (S.view source.old).left (S.view source.new).left
         (ends (S.view source.old).faults (K.view out.old) (T.view trail.old))
         (ends (S.view source.new).faults (K.view out.new) (T.view trail.new)) }
 {

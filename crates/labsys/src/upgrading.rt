@@ -7,7 +7,7 @@ ghost use Rattle.lab_engine.specs.Playing.{WritesOut, ends};
 ghost use Rattle.lab_engine.specs.Upgrading.{ReadsBack};
 ghost use Rattle.labsys.specs.Playing.{DoesWorld, IsOpened};
 
-use crate::Command;
+use crate::InputCommand;
 use crate::viewing::report_unless_whole;
 use io_ends::{Sink, Source};
 use lab_engine::{Fault, InputEnd, OpenedWorld, Texts, answer, upgrade_script};
@@ -34,7 +34,7 @@ pub fn upgrade<S: Source, K: Sink>(
 ) -> Result<InputEnd, Fault>
     requires { IsOpened opened }
     ensures { (trail : SinkView)
-        → DoesWorld Command.Upgrade result opened.read opened.lines (S.view source.old).left (S.view source.new).left
+        → DoesWorld InputCommand.Upgrade result opened.read opened.lines (S.view source.old).left (S.view source.new).left
         (ends (S.view source.old).faults (K.view out.old) trail)
         (ends (S.view source.new).faults (K.view out.new) trail) }
 {

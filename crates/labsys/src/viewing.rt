@@ -12,7 +12,7 @@ ghost use Rattle.labsys.specs.Playing.{DoesWorld, IsOpened, WritesLeft, due_of_l
 
 use crate::playing::{end_without_world, finish};
 use crate::session::Session;
-use crate::{Argument, Command};
+use crate::{Argument, InputCommand};
 use io_ends::{Sink, Source, SureSink};
 use kern_core::Kernel;
 use lab_engine::{CommandWord, Fault, InputEnd, OpenedWorld, Played, Report, Texts, report_last};
@@ -116,7 +116,7 @@ pub fn view<S: Source, K: Sink>(
     out: &mut K,
 ) -> Result<InputEnd, Fault>
     requires { IsOpened opened }
-    ensures { (trail : SinkView) → DoesWorld (Command.View word.entry) result opened.read opened.lines
+    ensures { (trail : SinkView) → DoesWorld (InputCommand.View word.entry) result opened.read opened.lines
         (S.view source.old).left (S.view source.new).left
         (ends (S.view source.old).faults (K.view out.old) trail)
         (ends (S.view source.new).faults (K.view out.new) trail) }

@@ -1,8 +1,7 @@
-use Rattle.std.proofs.Common.{[], refl}
+use Rattle.std.proofs.Common.{refl}
 use Rattle.std.specs.Prelude.{None}
 use Rattle.io_ends.specs.Ends.{sink_view}
 use Rattle.labsys.proofs.PerformLemmas.{alone_fails, alone_written, drills, generates, no_read_beside, no_trail_beside, no_trail_fault}
-use Rattle.labsys.proofs.WorldLemmas.{reads_one}
 use Rattle.labsys.proofs.performing.perform.Goals as goal
 
 pub returns-in_err-generate-in-Gen-clause-did : goal.returns-in_err-generate-in-Gen-clause-did
@@ -34,6 +33,3 @@ returns-in_err-drill-in-Drill-clause-read_fault g c = λ is. absurd (no_read_bes
 
 pub returns-in_err-drill-in-Drill-clause-trail_fault : goal.returns-in_err-drill-in-Drill-clause-trail_fault
 returns-in_err-drill-in-Drill-clause-trail_fault g c = λ is. absurd (no_trail_beside _ _ _ _ _ c.in_err-drill-in-Drill.ensures c.from_residual-in_err-drill-in-Drill.ensures.1 is)
-
-pub perform_on_input-requires : goal.perform_on_input-requires
-perform_on_input-requires g c = reads_one _ [] c.in-Play.is
