@@ -17,7 +17,7 @@ from support import HERE, LABASK, TOP, labask
 from labask.cluster import Done, done_of, sources, value_of
 from labask.effort import Effort
 from labask.playing import Player, PlayingFault, Refusal, Refused
-from labask.rule_answers import First
+from labask.rule_answers import Shortest
 
 LESSON, RACE, KEEPS = (TOP / "examples" / name for name in ("lesson.txt", "race.txt", "backup_for_operators.txt"))
 SECONDS = 60.0
@@ -250,14 +250,14 @@ def test_the_seconds_that_are_left_are_sent() -> None:
     assert isinstance(over, Effort) and over.over()
 
 
-def test_the_first_place_is_sent_as_it_is_by_now() -> None:
-    first = First(9)
-    first.found(4)
-    first.found(7)
-    found = sent(first)
-    assert isinstance(found, First) and found.place == first.place == 4
-    found.found(1)
-    assert (found.place, first.place) == (1, 4)
+def test_the_shortest_script_is_sent_as_it_is_by_now() -> None:
+    shortest = Shortest(6, 9)
+    shortest.found(4, 7)
+    shortest.found(4, 8)
+    found = sent(shortest)
+    assert isinstance(found, Shortest) and found.known == shortest.known == (4, 7)
+    found.found(3, 8)
+    assert (found.known, shortest.known) == ((3, 8), (4, 7))
 
 
 @pytest.mark.parametrize("fault", [Refused(b"text", Refusal(3, "world", "name")), Refused(b"text", None), PlayingFault("no")], ids=str)

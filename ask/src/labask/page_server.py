@@ -157,7 +157,7 @@ class Handler(BaseHTTPRequestHandler):
     def setup(self) -> None:
         """As that of the base class. A request that has not come in time is cut there, and what has come of it is refused."""
         super().setup()
-        self.connection.settimeout(self.server.limits.patience)
+        self.connection.settimeout(2 * self.server.limits.patience)  # longer, so that a read ends by the cut and has its answer
         self.clock = threading.Timer(self.server.limits.patience, self.cut)
         self.clock.daemon = True
         self.clock.start()
