@@ -15,7 +15,7 @@ use Rattle.lab_engine.specs.Reading.{Takes, left_of, script_at}
 use Rattle.labsys.specs.declared.command.InputCommand.TheVariants.{Check}
 use Rattle.labsys.specs.Checking.{check_text, checked_text}
 use Rattle.labsys.specs.Clauses.{TakesAtMost}
-use Rattle.labsys.specs.Plans.{ends_with}
+use Rattle.labsys.specs.Commands.{ends_with}
 use Rattle.labsys.specs.Playing.{DoesWorld, WritesLeft, due_left}
 use Rattle.labsys.proofs.InputLemmas.{reads_within}
 use Rattle.labsys.proofs.WorldLemmas.{reading_stops, text_stops, text_written}

@@ -1,6 +1,6 @@
 -- The clauses of the top call, from what a run did.
 use Rattle.std.specs.Prelude.{Result, IfOk, IfSome, Ok, Err, None, Some}
-use Rattle.std.proofs.Common.{◌≡◌, ℕ, ◌+◌, ◌≤◌, true, List, [], ◌∷◌, ◌++◌, length, refl, sym, ◌∙◌, ap, subst, arith}
+use Rattle.std.proofs.Common.{◌≡◌, ℕ, ◌+◌, ◌≤◌, Bool, true, false, List, [], ◌∷◌, ◌++◌, length, refl, sym, ◌∙◌, ap, subst, arith}
 use Rattle.std.proofs.lemmas.List.{append-nil, append_cancel_left, append_cancel_right}
 use Rattle.std.proofs.KnownBytes.{Appends-nil, Consumes-nil}
 use Rattle.std.specs.declared.option.Option.{Option}
@@ -12,7 +12,7 @@ use Rattle.kern_model.specs.Lineage.{OnlyDrops, GrowsByExec}
 use Rattle.iso_laws.proofs.Laws.{drops_by_records, growth_by_records}
 use Rattle.labsys.specs.declared.command.Command.{Command}
 use Rattle.labsys.specs.declared.command.Command.TheVariants.{OnInput, Gen, Drill, Select, Lineage}
-use Rattle.labsys.specs.declared.command.InputCommand.TheVariants.{Play, Sched, Check, View, Upgrade, Least, Never}
+use Rattle.labsys.specs.declared.command.InputCommand.TheVariants.{Play, View, Upgrade}
 use Rattle.lab_engine.specs.declared.ending.InputEnd.{InputEnd}
 use Rattle.lab_engine.specs.declared.ending.InputEnd.TheVariants.{Whole, Refused as IsRefused, RefusedWord, TooMuch}
 use Rattle.lab_engine.specs.declared.ending.Fault.{Fault}
@@ -22,8 +22,7 @@ use Rattle.labsys.specs.declared.status.Status.TheVariants.{Done, Usage, Refused
 use Rattle.lab_engine.specs.Input.{Accepted, Script, input_of}
 use Rattle.lab_engine.specs.Session.{Session, session_of, bytes_of, replies_of, records_of, head_text, tail_text}
 use Rattle.lab_engine.specs.Order.{Sent, calls_by, out_of, trail_of, session_order, order_by, order_of, order_of_calls, to_out, IsInOrder}
-use Rattle.labsys.specs.Commands.{due, reads_source, writes_trail}
-use Rattle.labsys.specs.Plans.{Due, ends_with}
+use Rattle.labsys.specs.Commands.{due, reads_source, writes_trail, Due, ends_with}
 use Rattle.lab_engine.specs.Counts.{counted_by}
 use Rattle.labsys.specs.Counts.{counts_after}
 use Rattle.io_ends.specs.Ends.{sink_view}
@@ -51,6 +50,7 @@ use Rattle.labsys.proofs.LineageLemmas.{printed_by_any}
 use Rattle.labsys.proofs.ReadableLemmas.{readable_by_then}
 use Rattle.labsys.proofs.Printing.{out_reported, trail_reported, all_numbered}
 use Rattle.labsys.proofs.Isolating.{written, is_isolated, is_isolated_whole, two_agree, two_whole}
+use Rattle.labsys.proofs.CommandRows.{WritesOut, writes_out_alone}
 
 -- ---- the ends that report
 
@@ -297,34 +297,31 @@ writes_out (Err x) bytes e e' w = record {
 }
 
 -- a command that writes to the output alone did the same where the trail counts as one that holds nothing
-did_beside : (c : Command) (bytes : List ℕ → List ℕ) → ((text : List ℕ) → (due c text).order ≡ to_out (bytes text)) → (c ≡ OnInput Play → ⊥)
-    → ((text : List ℕ) (r : Result InputEnd Fault) (e e' f f' : Ends) → Besides c text r e e' → Besides c text r f f') → (r : Result InputEnd Fault) (l l' : Option (List ℕ)) (e e' : Ends) → CommandDid c r l l' e e'
-    → CommandDid c r l l' (without_trail e) (without_trail e')
-did_beside c bytes is other same r l l' e e' x =
+did_beside : (c : Command) → WritesOut c → (r : Result InputEnd Fault) (l l' : Option (List ℕ)) (e e' : Ends) → CommandDid c r l l' e e' → CommandDid c r l l' (without_trail e) (without_trail e')
+did_beside c out r l l' e e' x =
     let text = x.taken ++ left_of l' in
     record {
       taken = x.taken;
       took = x.took;
       few = x.few;
-      writes = in_order r _ _ _ _ (sym (is text)) (writes_out r (bytes text) e e' (in_order r _ _ e e' (is text) x.writes));
+      writes = in_order r _ _ _ _ (sym (out.is text)) (writes_out r (out.bytes text) e e' (in_order r _ _ e e' (out.is text) x.writes));
       status = x.status;
       to_the_end = x.to_the_end;
-      by_line = λ play. absurd (other play);
-      besides = same text r e e' (without_trail e) (without_trail e') x.besides;
+      by_line = λ play. absurd (out.other play);
+      besides = out.same text r e e' (without_trail e) (without_trail e') x.besides;
     }
 
 -- a command did the same by what the ends report that it uses
 pub did_used : (c : Command) (r : Result InputEnd Fault) (l l' : Option (List ℕ)) (e e' : Ends) → CommandDid c r l l' e e'
     → CommandDid c r (if_used (reads_source c) l) (if_used (reads_source c) l') (ends_used c e) (ends_used c e')
-did_used (OnInput Play) r l l' e e' x = x
-did_used (OnInput Sched) r l l' e e' x = x
-did_used (OnInput Check) r l l' e e' x = did_beside (OnInput Check) _ (λ text. refl) (λ play. absurd (cc)) (λ text q a b c d same. same) r l l' e e' x
-did_used (OnInput (View word)) r l l' e e' x = did_beside (OnInput (View word)) _ (λ text. refl) (λ play. absurd (cc)) (λ text q a b c d same. same) r l l' e e' x
-did_used (OnInput Upgrade) r l l' e e' x = did_beside (OnInput Upgrade) _ (λ text. refl) (λ play. absurd (cc)) (λ text q a b c d same. same) r l l' e e' x
-did_used (OnInput Least) r l l' e e' x = did_beside (OnInput Least) _ (λ text. refl) (λ play. absurd (cc)) (λ text q a b c d same. same) r l l' e e' x
-did_used (OnInput Never) r l l' e e' x = did_beside (OnInput Never) _ (λ text. refl) (λ play. absurd (cc)) (λ text q a b c d same. same) r l l' e e' x
-did_used (Select word) r l l' e e' x = did_beside (Select word) _ (λ text. refl) (λ play. absurd (cc)) (λ text q a b c d same. same) r l l' e e' x
-did_used Lineage r l l' e e' x = did_beside Lineage _ (λ text. refl) (λ play. absurd (cc)) (λ text q a b c d same. same) r l l' e e' x
+did_used (OnInput c) r l l' e e' x = by_trail (writes_trail (OnInput c)) refl
+  where
+    by_trail : (uses : Bool) → writes_trail (OnInput c) ≡ uses
+        → CommandDid (OnInput c) r l l' (record e { trail = sink_view (if_used uses e.trail.held) e.trail.faults }) (record e' { trail = sink_view (if_used uses e'.trail.held) e'.trail.faults })
+    by_trail true is = x
+    by_trail false is = did_beside (OnInput c) (writes_out_alone (OnInput c) is) r l l' e e' x
+did_used (Select word) r l l' e e' x = did_beside (Select word) (writes_out_alone (Select word) refl) r l l' e e' x
+did_used Lineage r l l' e e' x = did_beside Lineage (writes_out_alone Lineage refl) r l l' e e' x
 did_used (Gen n) r l l' e e' x = record { taken = []; took = Consumes-nil (Some []); few = omega arith; writes = writes_out r _ e e' x.writes; status = x.status; to_the_end = λ reads. absurd (cc); by_line = λ play. absurd (cc); besides = tt }
 did_used (Drill n) r l l' e e' x = record { taken = []; took = Consumes-nil (Some []); few = omega arith; writes = writes_out r _ e e' x.writes; status = x.status; to_the_end = λ reads. absurd (cc); by_line = λ play. absurd (cc); besides = tt }
 

@@ -1,20 +1,20 @@
 -- What a source has left, and an input without a world.
 use Rattle.std.proofs.Common.{◌≡◌, ℕ, List, [], ◌++◌, refl, sym, ◌∙◌, ap, subst, arith}
 use Rattle.std.proofs.KnownBytes.{Consumes-nil}
-use Rattle.std.specs.Prelude.{Option, None, Some}
+use Rattle.std.specs.Prelude.{Option, None, Some, Result, Ok, Err, IsErrAnd, IfOk}
 use Rattle.std.specs.Io.KnownBytes.{Consumes}
 use Rattle.io_ends.specs.LinesState.{LinesState, may_take}
+use Rattle.lab_engine.specs.declared.ending.Fault.{Fault}
+use Rattle.lab_engine.specs.declared.ending.Fault.TheVariants.{Read}
 use Rattle.lab_engine.specs.declared.ending.InputEnd.{InputEnd}
 use Rattle.lab_engine.specs.Input.{Accepted, Input, no_world}
 use Rattle.lab_engine.specs.declared.opening.OpenedWorld.{OpenedWorld}
 use Rattle.lab_engine.specs.Opening.{EndsInput, OpensWorld}
-use Rattle.lab_engine.specs.Order.{Sent, calls_by, order_by, order_of, order_of_calls, to_out}
+use Rattle.lab_engine.specs.Order.{calls_by, order_by, order_of, order_of_calls, to_out}
 use Rattle.lab_engine.specs.Reading.{Takes, left_of}
 use Rattle.lab_engine.specs.Texts.{last_text}
-use Rattle.labsys.specs.declared.command.InputCommand.{InputCommand}
-use Rattle.labsys.specs.declared.command.InputCommand.TheVariants.{Play, Sched, Check, View, Upgrade, Least, Never}
 use Rattle.labsys.specs.Clauses.{TakesAtMost}
-use Rattle.labsys.specs.Plans.{InputKind, Calls, CallsWithoutSets, OldLines, Programs, due_of, due_with, format_in, kind_of, read_left, read_none, read_of}
+use Rattle.labsys.specs.Commands.{InputKind, Calls, CallsWithoutSets, OldLines, Programs, format_in, read_left, read_none, read_of}
 use Rattle.labsys.proofs.ProgramInputs.{no_programs, programs_left}
 
 -- ---- what a source has left
@@ -43,7 +43,7 @@ reads_within lines lines' left left' taken takes = record { taken = taken; took 
 -- ---- an input without a world
 
 -- without a world the order is the last line, and no call is played
-without_world : (e : InputEnd) → to_out (last_text 0 e) ≡ order_of (no_world e)
+pub without_world : (e : InputEnd) → to_out (last_text 0 e) ≡ order_of (no_world e)
 unfolding order_by
 without_world e = refl
 
@@ -61,16 +61,18 @@ ended_input CallsWithoutSets left taken e ended = ended.least
 ended_input OldLines left taken e ended = ended.keeps
 ended_input Programs left taken e ended = no_programs (taken ++ left_of left) e ended.says
 
--- of that the last line is due
-pub due_without_world : (c : InputCommand) (e : InputEnd) → due_of c (read_none (kind_of c) e) ≡ due_with (to_out (last_text 0 e)) e
-due_without_world Play e = ap (λ (o : List Sent). due_with o e) (sym (without_world e))
-due_without_world Sched e = refl
-due_without_world Check e = refl
-due_without_world (View word) e = refl
-due_without_world Upgrade e = refl
-due_without_world Least e = refl
-due_without_world Never e = refl
-
 pub no_calls : (i : Input) → i.accepted ≡ None → order_of_calls i ≡ []
 unfolding calls_by
 no_calls i none = ap (λ (a : Option Accepted). calls_by a i.script) none
+
+-- ---- a run that failed
+module _ (r : Result InputEnd Fault) (fault : Fault) (is : IsErrAnd r (λ q. q ≡ fault)) where
+  pub failed_ending : (P : InputEnd → Type 0) → IfOk r P
+  failed_ending = by_result r is
+    where
+      by_result : (x : Result InputEnd Fault) → IsErrAnd x (λ q. q ≡ fault) → (P : InputEnd → Type 0) → IfOk x P
+      by_result (Ok e) is P = absurd is
+      by_result (Err q) is P = tt
+
+  pub failed_read : r ≡ Err Read → fault ≡ Read
+  failed_read read = sym (subst (λ (x : Result InputEnd Fault). IsErrAnd x (λ q. q ≡ fault)) read is)

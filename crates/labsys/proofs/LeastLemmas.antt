@@ -25,11 +25,11 @@ use Rattle.lab_engine.specs.Report.{caps_in, report_after}
 use Rattle.lab_engine.specs.Upgrading.{ReadsBack}
 use Rattle.lab_engine.proofs.RunReports.{named_after}
 use Rattle.labsys.specs.declared.command.InputCommand.TheVariants.{Least}
-use Rattle.labsys.specs.Plans.{CallsWithoutSets, ends_with, read_left}
+use Rattle.labsys.specs.Commands.{CallsWithoutSets, ends_with, read_left}
 use Rattle.labsys.specs.Least.{NarrowedReadsBack, least_world, needed_by, needs_text, text_of_least}
 use Rattle.labsys.specs.Playing.{DoesWorld, NeedsWorld, due_left}
-use Rattle.labsys.proofs.InputLemmas.{reads_nothing, reads_within}
-use Rattle.labsys.proofs.WorldLemmas.{failed_ending, reading_stops, some_same, text_stops, text_written}
+use Rattle.labsys.proofs.InputLemmas.{failed_ending, reads_nothing, reads_within}
+use Rattle.labsys.proofs.WorldLemmas.{reading_stops, some_same, text_stops, text_written}
 
 -- ---- a script of an accepted world
 

@@ -2,6 +2,7 @@ pub mod GeneratedLemmas
 pub mod ChosenLemmas
 pub mod ProgramInputs
 pub mod InputLemmas
+pub mod CommandRows
 pub mod Coverage
 pub mod AcceptedLemmas
 pub mod Printing

@@ -38,8 +38,7 @@ use Rattle.labsys.specs.declared.command.Command.TheVariants.{OnInput}
 use Rattle.labsys.specs.declared.command.InputCommand.TheVariants.{Never, Play}
 use Rattle.labsys.specs.declared.status.Status.{Status}
 use Rattle.labsys.specs.Clauses.{TakesAtMost, reports, status_of, trail_with}
-use Rattle.labsys.specs.Commands.{due}
-use Rattle.labsys.specs.Plans.{ends_with}
+use Rattle.labsys.specs.Commands.{due, ends_with}
 use Rattle.labsys.specs.Never.{count_labels, givers_text, holders_text, labels_text, lines_by, never_text, said_text, text_of_never, unexercised, unexercised_text}
 use Rattle.labsys.specs.Playing.{CommandDid, DoesWorld, WritesLeft, due_left}
 use Rattle.labsys.specs.Promises.{HoldsOf, SaysNever}

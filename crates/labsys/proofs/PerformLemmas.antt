@@ -17,12 +17,11 @@ use Rattle.labsys.specs.declared.command.Command.{Command}
 use Rattle.labsys.specs.declared.command.Command.TheVariants.{OnInput, Gen, Drill}
 use Rattle.labsys.specs.declared.command.InputCommand.TheVariants.{Play}
 use Rattle.labsys.specs.declared.status.Status.TheVariants.{Done}
-use Rattle.labsys.specs.Commands.{LeavesAlone, due, reads_source}
-use Rattle.labsys.specs.Plans.{Due, ends_with}
+use Rattle.labsys.specs.Commands.{LeavesAlone, due, reads_source, Due, ends_with}
 use Rattle.labsys.specs.Drilling.{drilled_text}
 use Rattle.labsys.specs.Playing.{CommandDid}
 use Rattle.labsys.proofs.TrailLemmas.{HasNoMore}
-use Rattle.labsys.proofs.WorldLemmas.{failed_ending}
+use Rattle.labsys.proofs.InputLemmas.{failed_ending}
 
 -- a command that reads nothing, and writes these bytes whatever a source has
 pub record WritesAlone (c : Command) (text : List ℕ) : Type 0 where

@@ -30,11 +30,11 @@ use Rattle.lab_engine.proofs.ReportLemmas.{all_reported}
 use Rattle.lab_engine.proofs.Sending.{goes_on, in_order, prefix_after, prefix_longer, prefix_nothing, sends_more, stops_after, stops_at_once, stops_longer}
 use Rattle.labsys.specs.declared.command.InputCommand.TheVariants.{Play}
 use Rattle.labsys.specs.Clauses.{TakesAtMost}
-use Rattle.labsys.specs.Plans.{ends_with}
+use Rattle.labsys.specs.Commands.{ends_with}
 use Rattle.labsys.specs.Playing.{DoesWorld, due_left}
 use Rattle.labsys.specs.Readable.{InputReadable, SessionReadable}
-use Rattle.labsys.proofs.InputLemmas.{reads_nothing, reads_within}
-use Rattle.labsys.proofs.WorldLemmas.{failed_read, left_stops, left_written, memory_not_read, some_same}
+use Rattle.labsys.proofs.InputLemmas.{failed_read, reads_nothing, reads_within}
+use Rattle.labsys.proofs.WorldLemmas.{left_stops, left_written, memory_not_read, some_same}
 
 -- ---- an accepted world
 

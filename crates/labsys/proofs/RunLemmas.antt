@@ -17,7 +17,8 @@ use Rattle.labsys.specs.declared.status.Status.TheVariants.{Usage, NoMemory}
 use Rattle.labsys.specs.Clauses.{reports, status_of}
 use Rattle.labsys.specs.Commands.{command_of, reads_source, writes_trail}
 use Rattle.labsys.specs.Playing.{CommandDid}
-use Rattle.labsys.specs.Running.{PromisedBy, RunEnds, Runs}
+use Rattle.labsys.specs.Promises.{PromisedBy}
+use Rattle.labsys.specs.Running.{RunEnds, Runs}
 use Rattle.labsys.proofs.ClauseLemmas.{of_command, run_counts, run_ending, run_few, run_order, run_play, run_read_fault, run_to_the_end, run_trail_fault, run_upgrade, run_view, run_whole}
 use Rattle.labsys.proofs.InputLemmas.{reads_nothing}
 use Rattle.labsys.proofs.LineageAnswers.{run_lineage}

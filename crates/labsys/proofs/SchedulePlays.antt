@@ -39,7 +39,7 @@ use Rattle.sched_progs.specs.Loop.{loop, loop_end}
 use Rattle.sched_progs.specs.Turns.{LoopItem}
 use Rattle.sched_progs.specs.Chosen.{record_of_item}
 use Rattle.labsys.specs.declared.command.InputCommand.TheVariants.{Sched}
-use Rattle.labsys.specs.Plans.{ends_with}
+use Rattle.labsys.specs.Commands.{ends_with}
 use Rattle.labsys.specs.Playing.{DoesWorld, due_left}
 use Rattle.labsys.specs.Readable.{ProgramsReadable, RunReadable}
 use Rattle.labsys.specs.Scheduling.{HasSchedule, NoSchedule, ProgramInput, ending_of_programs, loop_of, order_of_programs, session_by, with_schedule}

@@ -43,11 +43,10 @@ use Rattle.labsys.specs.declared.command.Command.TheVariants.{Lineage, OnInput, 
 use Rattle.labsys.specs.declared.command.InputCommand.TheVariants.{Play}
 use Rattle.labsys.specs.declared.trails.ReadTrail.{ReadTrail}
 use Rattle.labsys.specs.declared.trails.ReadTrail.TheVariants as read_is
-use Rattle.labsys.specs.Commands.{due}
-use Rattle.labsys.specs.Plans.{Due, ends_with}
+use Rattle.labsys.specs.Commands.{due, Due, ends_with}
 use Rattle.labsys.specs.Playing.{Besides, CommandDid}
 use Rattle.labsys.specs.Trails.{IfTrail, ReadsTrail, ending_of_error, trail_by, trail_in}
-use Rattle.labsys.proofs.WorldLemmas.{failed_ending}
+use Rattle.labsys.proofs.InputLemmas.{failed_ending}
 
 -- ---- bytes that are no trail
 

@@ -12,8 +12,8 @@ use Rattle.labsys.specs.declared.status.Status.TheVariants as status
 use Rattle.labsys.specs.Clauses.{WhereReported, reports, reports_used}
 use Rattle.labsys.specs.Commands.{LeavesAlone, Unless, due, reads_source, writes_trail}
 use Rattle.labsys.specs.Playing.{CommandDid}
-use Rattle.labsys.proofs.WorldLemmas.{besides_failed}
 use Rattle.labsys.proofs.ClauseLemmas.{run_order}
+use Rattle.labsys.proofs.CommandRows.{besides_failed}
 
 -- what holds of each command holds of that which the words name
 pub where_named : (o : Option Command) (P : Command → Type 0) → ((c : Command) → P c) → IfSome o P

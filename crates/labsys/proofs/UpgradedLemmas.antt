@@ -16,11 +16,11 @@ use Rattle.lab_engine.specs.Viewing.{unless_whole}
 use Rattle.lab_engine.proofs.Sending.{goes_on, in_order, stops_longer, to_out-append}
 use Rattle.labsys.specs.declared.command.InputCommand.TheVariants.{Upgrade}
 use Rattle.labsys.specs.Clauses.{TakesAtMost}
-use Rattle.labsys.specs.Plans.{ends_with}
+use Rattle.labsys.specs.Commands.{ends_with}
 use Rattle.labsys.specs.Playing.{DoesWorld, WritesLeft, due_left}
 use Rattle.labsys.specs.Upgrading.{upgrade_text}
-use Rattle.labsys.proofs.InputLemmas.{reads_nothing, reads_within}
-use Rattle.labsys.proofs.WorldLemmas.{failed_ending, left_stops, left_written, some_same}
+use Rattle.labsys.proofs.InputLemmas.{failed_ending, reads_nothing, reads_within}
+use Rattle.labsys.proofs.WorldLemmas.{left_stops, left_written, some_same}
 
 -- ---- an accepted world
 

@@ -37,7 +37,7 @@ use Rattle.lab_engine.proofs.Sending.{goes_on, in_order, stops_at_once, stops_lo
 use Rattle.lab_text.specs.Text.{parse_label}
 use Rattle.labsys.specs.declared.command.InputCommand.TheVariants.{View}
 use Rattle.labsys.specs.Clauses.{TakesAtMost}
-use Rattle.labsys.specs.Plans.{ends_with}
+use Rattle.labsys.specs.Commands.{ends_with}
 use Rattle.labsys.specs.Playing.{DoesWorld, WritesLeft, due_of_label}
 use Rattle.labsys.proofs.InputLemmas.{reads_nothing, reads_within}
 use Rattle.labsys.proofs.WorldLemmas.{left_stops, left_written}

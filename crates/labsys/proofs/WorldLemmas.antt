@@ -1,5 +1,5 @@
 -- What a command did with an accepted world, and that it is what is due of the whole input.
-use Rattle.std.proofs.Common.{◌≡◌, inr, ℕ, List, [], ◌++◌, sym, ◌∙◌, ap, subst, append_assoc, arith}
+use Rattle.std.proofs.Common.{◌≡◌, ℕ, List, [], ◌++◌, sym, ◌∙◌, ap, subst, append_assoc, arith}
 use Rattle.std.proofs.KnownBytes.{Appends-nil, Consumes-trans}
 use Rattle.std.proofs.lemmas.List.{length-append}
 use Rattle.std.proofs.lemmas.Result.{IfOk-weaker}
@@ -23,28 +23,15 @@ use Rattle.lab_engine.specs.Reading.{left_of, script_at}
 use Rattle.lab_engine.specs.Texts.{last_text}
 use Rattle.lab_engine.proofs.Sending.{in_order, not_a_read, passes_on, prefix_nothing}
 use Rattle.world_text.specs.declared.format.Format.{Format}
-use Rattle.labsys.specs.declared.command.Command.{Command}
-use Rattle.labsys.specs.declared.command.Command.TheVariants.{OnInput, Gen, Drill, Select, Lineage}
+use Rattle.labsys.specs.declared.command.Command.TheVariants.{OnInput}
 use Rattle.labsys.specs.declared.command.InputCommand.{InputCommand}
-use Rattle.labsys.specs.declared.command.InputCommand.TheVariants.{Play, Sched, Check, View, Upgrade, Least, Never}
+use Rattle.labsys.specs.declared.command.InputCommand.TheVariants.{Play}
 use Rattle.labsys.specs.Clauses.{TakesAtMost}
-use Rattle.labsys.specs.Commands.{due}
-use Rattle.labsys.specs.Plans.{Calls, Due, ReadAs, due_of, due_with, ends_with, kind_of, read_left, read_none, read_of}
+use Rattle.labsys.specs.Commands.{due, Calls, Due, due_of, due_with, ends_with, kind_of, read_left}
 use Rattle.labsys.specs.Playing.{Besides, BesidesOf, CommandDid, DoesWorld, IsOpened, WritesLeft, due_left, format_of}
 use Rattle.labsys.proofs.AcceptedLemmas.{accepted_in}
-use Rattle.labsys.proofs.InputLemmas.{due_without_world, ended_input, no_calls, opened_input}
-
--- ---- a run that failed
-module _ (r : Result InputEnd Fault) (fault : Fault) (is : IsErrAnd r (λ q. q ≡ fault)) where
-  pub failed_ending : (P : InputEnd → Type 0) → IfOk r P
-  failed_ending = by_result r is
-    where
-      by_result : (x : Result InputEnd Fault) → IsErrAnd x (λ q. q ≡ fault) → (P : InputEnd → Type 0) → IfOk x P
-      by_result (Ok e) is P = absurd is
-      by_result (Err q) is P = tt
-
-  pub failed_read : r ≡ Err Read → fault ≡ Read
-  failed_read read = sym (subst (λ (x : Result InputEnd Fault). IsErrAnd x (λ q. q ≡ fault)) read is)
+use Rattle.labsys.proofs.InputLemmas.{ended_input, failed_ending, failed_read, no_calls, opened_input}
+use Rattle.labsys.proofs.CommandRows.{besides_failed, besides_none, due_without_world}
 
 -- memory is no read
 pub memory_not_read : (r : Result InputEnd Fault) → IsErrAnd r (λ q. q ≡ NoMemory) → r ≡ Err Read → ⊥
@@ -111,36 +98,6 @@ module _ {format : Format} (x : Opened) (left between : Option (List ℕ)) (open
 
 pub some_same : (v a : Accepted) → Some v ≡ Some a → v ≡ a
 some_same v a e = cc
-
--- ---- what holds besides
-
--- without a world there is nothing besides
-besides_none : (c : InputCommand) (ending : InputEnd) (r : Result InputEnd Fault) (before after : Ends) → IfOk r (λ e. e ≡ ending) → BesidesOf c (read_none (kind_of c) ending) r before after
-besides_none Play ending r before after same = λ a accepted. absurd (cc)
-besides_none Sched ending r before after same = λ a s no. absurd (cc)
-besides_none Check ending r before after same = tt
-besides_none (View word) ending r before after same = tt
-besides_none Upgrade ending r before after same = IfOk-weaker r _ _ (λ e is a accepted. absurd (cc)) same
-besides_none Least ending r before after same = IfOk-weaker r _ _ (λ e is whole a accepted. absurd (cc)) same
-besides_none Never ending r before after same = tt
-
-module _ (r : Result InputEnd Fault) (fault : Fault) (is : IsErrAnd r (λ q. q ≡ fault)) (n n' : ℕ) (o t : SinkView) where
-  -- nor where nothing was written before a fault
-  input_failed : (c : InputCommand) (i : ReadAs (kind_of c)) → BesidesOf c i r (ends n o t) (ends n' o t)
-  input_failed Play i = λ a accepted. inr (prefix_nothing _ n n' o t)
-  input_failed Sched i = λ a s scheduled. inr (prefix_nothing _ n n' o t)
-  input_failed Check i = tt
-  input_failed (View word) i = tt
-  input_failed Upgrade i = failed_ending r fault is _
-  input_failed Least i = failed_ending r fault is _
-  input_failed Never i = tt
-
-  pub besides_failed : (c : Command) (text : List ℕ) → Besides c text r (ends n o t) (ends n' o t)
-  besides_failed (OnInput c) text = input_failed c (read_of (kind_of c) text)
-  besides_failed (Gen k) text = tt
-  besides_failed (Drill k) text = tt
-  besides_failed (Select word) text = tt
-  besides_failed Lineage text = tt
 
 -- ---- what a command did with an input
 

@@ -9,13 +9,12 @@ pub mod Selecting
 pub mod LineageText
 pub mod Scheduling
 pub mod Readable
-pub mod Plans
 pub mod Commands
 pub mod Counts
 pub mod Playing
 pub mod Clauses
 pub mod Lineage
-pub mod Promises
 pub mod ScheduleClauses
+pub mod Promises
 pub mod Running
 pub mod Exit

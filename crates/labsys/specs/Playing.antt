@@ -24,10 +24,9 @@ use Rattle.labsys.specs.declared.command.Command.TheVariants.{OnInput}
 use Rattle.labsys.specs.declared.command.InputCommand.{InputCommand}
 use Rattle.labsys.specs.declared.command.InputCommand.TheVariants.{Least, Play, Sched, Upgrade}
 use Rattle.labsys.specs.Clauses.{TakesAtMost}
-use Rattle.labsys.specs.Commands.{due, reads_source}
+use Rattle.labsys.specs.Commands.{due, reads_source, Due, ReadAs, due_of, due_with, ends_with, format_in, read_left, read_of, kind_of}
 use Rattle.labsys.specs.Drilling.{drill_text}
 use Rattle.labsys.specs.Least.{NarrowedReadsBack, needed_by}
-use Rattle.labsys.specs.Plans.{Due, ReadAs, due_of, due_with, ends_with, format_in, read_left, read_of, kind_of}
 use Rattle.labsys.specs.Readable.{InputReadable, ProgramsReadable}
 use Rattle.labsys.specs.Upgrading.{WorldReadsBack}
 use Rattle.labsys.specs.Viewing.{viewed_ending, viewed_text}

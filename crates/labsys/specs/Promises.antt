@@ -1,4 +1,4 @@
--- What `play`, `view`, `upgrade`, `least`, `never` and `lineage` promise, where the ends that they use report their bytes.
+-- What each command promises, where the ends that it uses report their bytes.
 use Rattle.std.specs.Prelude.{◌≡◌, ℕ, ◌≤◌, true, List, Some, length}
 use Rattle.cap_bits.specs.declared.cap.Cap.{Cap}
 use Rattle.cap_bits.specs.CapSet.{has}
@@ -13,8 +13,9 @@ use Rattle.lab_engine.specs.Order.{out_of, trail_of}
 use Rattle.lab_engine.specs.Session.{numbered_recs, session_of}
 use Rattle.lab_engine.specs.Viewing.{session_alone, view_text}
 use Rattle.lab_engine.specs.Upgrading.{UpgradedTo}
+use Rattle.labsys.specs.declared.command.Command.{Command}
 use Rattle.labsys.specs.declared.command.Command.TheVariants.{Lineage, OnInput}
-use Rattle.labsys.specs.declared.command.InputCommand.TheVariants.{Least, Never, Play, Upgrade, View}
+use Rattle.labsys.specs.declared.command.InputCommand.TheVariants.{Least, Never, Play, Sched, Upgrade, View}
 use Rattle.labsys.specs.declared.status.Status.{Status}
 use Rattle.labsys.specs.declared.status.Status.TheVariants.{Done, ReadFault}
 use Rattle.labsys.specs.Commands.{due}
@@ -23,6 +24,7 @@ use Rattle.labsys.specs.Clauses.{Reports, reports_used, run_of, OnWhole, WhereRe
 use Rattle.labsys.specs.Least.{NarrowedTo}
 use Rattle.labsys.specs.Lineage.{AnsweredYes, PrintedByAny}
 use Rattle.labsys.specs.LineageText.{SaysLineage}
+use Rattle.labsys.specs.ScheduleClauses.{Schedules}
 
 -- the world was accepted, and P holds of it, of its script, and of what the output and the trail got
 abbrev pub OnAccepted : Reports → Reports → (Accepted → Script → List ℕ → List ℕ → Type 0) → Type 0
@@ -114,3 +116,21 @@ pub record ChecksLineage (status : Status) (old now : Reports) : Type 0 where
   -- those before it; or it is `no`, with the line of the first record that may not, and why.
   pub answers : status ≡ Done
       → WhereReported (reports_used Lineage old) (reports_used Lineage now) (λ text out trail. SaysLineage text out)
+
+-- what a command promises besides, with this status:
+-- * `play`, records before replies, isolation, the capability sets at the end, and a trail of which `lineage` says `yes`;
+-- * `sched`, records before replies, isolation of programs that react, the capability sets at the end, and such a trail;
+-- * `view`, that it writes what it writes of the part below its label alone;
+-- * `upgrade`, the same world and the same script, in the format of today;
+-- * `least`, that the world without the capabilities that the script did not need gives the same replies to it;
+-- * `never`, that what it says of the world holds of each input with this world, whatever script follows it;
+-- * `lineage`, that each record of the trail may come after those before it, or the first that may not is named.
+abbrev pub PromisedBy : Command → Status → Reports → Reports → Type 0
+PromisedBy (OnInput Play) status old now = Plays status old now
+PromisedBy (OnInput Sched) status old now = Schedules status old now
+PromisedBy (OnInput (View word)) status old now = Views word status old now
+PromisedBy (OnInput Upgrade) status old now = Upgrades status old now
+PromisedBy (OnInput Least) status old now = Narrows status old now
+PromisedBy (OnInput Never) status old now = SaysNever status old now
+PromisedBy Lineage status old now = ChecksLineage status old now
+PromisedBy _ status old now = Unit {0}

@@ -8,15 +8,12 @@ use Rattle.kern_model.specs.declared.limits.TheConstants.{MAX_INPUT}
 use Rattle.lab_engine.specs.Counts.{Counts, counts}
 use Rattle.lab_engine.specs.Order.{IsInOrder, out_of, trail_of}
 use Rattle.labsys.specs.declared.command.Command.{Command}
-use Rattle.labsys.specs.declared.command.Command.TheVariants.{OnInput, Lineage}
-use Rattle.labsys.specs.declared.command.InputCommand.TheVariants.{Play, Sched, View, Upgrade, Least, Never}
 use Rattle.labsys.specs.declared.status.Status.{Status}
 use Rattle.labsys.specs.declared.status.Status.TheVariants.{Done, Usage, ReadFault, TrailFault, NoMemory}
 use Rattle.labsys.specs.Clauses.{OnWhole, Reports, TakesAtMost, WhereReported, if_used, reports, reports_used}
 use Rattle.labsys.specs.Commands.{command_of, due, reads_source, writes_trail}
 use Rattle.labsys.specs.Counts.{counts_after}
-use Rattle.labsys.specs.Promises.{ChecksLineage, Narrows, Plays, SaysNever, Upgrades, Views}
-use Rattle.labsys.specs.ScheduleClauses.{Schedules}
+use Rattle.labsys.specs.Promises.{PromisedBy}
 
 -- what contracts see of the source, the output and the trail
 pub record RunEnds : Type 0 where
@@ -41,24 +38,6 @@ faults_in e = counts e.source.faults e.out.faults e.trail.faults
 abbrev pub WhereUsed : Command → (old now : RunEnds) → (List ℕ → List ℕ → List ℕ → Type 0) → Type 0
 WhereUsed command old now P =
     WhereReported (reports_used command (reports_of old)) (reports_used command (reports_of now)) P
-
--- what a command promises besides, with this status:
--- * `play`, records before replies, isolation, the capability sets at the end, and a trail of which `lineage` says `yes`;
--- * `sched`, records before replies, isolation of programs that react, the capability sets at the end, and such a trail;
--- * `view`, that it writes what it writes of the part below its label alone;
--- * `upgrade`, the same world and the same script, in the format of today;
--- * `least`, that the world without the capabilities that the script did not need gives the same replies to it;
--- * `never`, that what it says of the world holds of each input with this world, whatever script follows it;
--- * `lineage`, that each record of the trail may come after those before it, or the first that may not is named.
-abbrev pub PromisedBy : Command → Status → Reports → Reports → Type 0
-PromisedBy (OnInput Play) status old now = Plays status old now
-PromisedBy (OnInput Sched) status old now = Schedules status old now
-PromisedBy (OnInput (View word)) status old now = Views word status old now
-PromisedBy (OnInput Upgrade) status old now = Upgrades status old now
-PromisedBy (OnInput Least) status old now = Narrows status old now
-PromisedBy (OnInput Never) status old now = SaysNever status old now
-PromisedBy Lineage status old now = ChecksLineage status old now
-PromisedBy _ status old now = Unit {0}
 
 -- a run of the command that the words name, if they name one, with this status
 pub record Runs (words : List (String Global)) (status : Status) (old now : RunEnds) : Type 0 where

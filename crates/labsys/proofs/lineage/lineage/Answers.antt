@@ -1,9 +1,9 @@
 use Rattle.std.proofs.Common.{refl, sym, ◌∙◌}
 use Rattle.lab_engine.proofs.Sending.{passes_on}
 use Rattle.labsys.specs.Commands.{due_of_lineage}
-use Rattle.labsys.proofs.WorldLemmas.{failed_ending}
 use Rattle.labsys.proofs.TrailLemmas.{few_records, lineage_is_not_play, trail_ended, trail_fails, trail_read}
 use Rattle.labsys.proofs.lineage.lineage.Goals as goal
+use Rattle.labsys.proofs.InputLemmas.{failed_ending}
 
 pub returns-in_err-trail : goal.returns-in_err-trail
 returns-in_err-trail g c = λ t. trail_fails _ lineage_is_not_play (λ text r e e'. tt) c.from_residual.result _ _ _ _ _ _ t c.in_err-trail.ensures.reads (c.in_err-trail.ensures.counts _ _) c.from_residual.ensures.1

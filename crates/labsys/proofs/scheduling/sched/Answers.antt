@@ -4,9 +4,9 @@ use Rattle.lab_engine.proofs.Sending.{passes_on}
 use Rattle.sched_engine.specs.declared.reading.ReadSchedule.{ReadSchedule}
 use Rattle.sched_engine.specs.Reading.{IfSchedule}
 use Rattle.sched_engine.specs.Schedule.{MayBePlayed}
-use Rattle.labsys.proofs.WorldLemmas.{failed_ending}
 use Rattle.labsys.proofs.SchedulePlays.{reading_failed, schedule_run, without_schedule}
 use Rattle.labsys.proofs.scheduling.sched.Goals as goal
+use Rattle.labsys.proofs.InputLemmas.{failed_ending}
 
 pub returns-in_err-found : goal.returns-in_err-found
 returns-in_err-found g c = reading_failed c.args.opened.read c.args.opened.lines _ _ _ _ _ _ _ _ _ c.in_err-found.ensures.reads (c.in_err-found.ensures.counts _ _) c.from_residual.ensures.1

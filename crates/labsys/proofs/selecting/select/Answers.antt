@@ -1,7 +1,6 @@
 use Rattle.std.proofs.Common.{refl, ap}
 use Rattle.std.proofs.lemmas.Result.{IfOk-weaker}
-use Rattle.labsys.specs.Commands.{due_of_select}
-use Rattle.labsys.specs.Plans.{ends_with}
+use Rattle.labsys.specs.Commands.{due_of_select, ends_with}
 use Rattle.labsys.proofs.TrailLemmas.{select_is_not_play, trail_ended, trail_fails, trail_read}
 use Rattle.labsys.proofs.selecting.select.Goals as goal
 
