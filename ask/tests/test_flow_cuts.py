@@ -7,6 +7,13 @@ import pytest
 
 from support import TOP, labask
 
+from labask.effort import Effort
+from labask.flow_cuts import FlowCutter
+from labask.playing import Player
+from labask.search.finding import Ending
+from labask.search.limits import Limits
+from labask.worlds import read_world
+
 pytestmark = pytest.mark.usefixtures("program")
 EXAMPLE = TOP / "examples" / "backup_for_all.txt"
 PAIR = ("/pay/list of may", "1@internal:eng")
@@ -65,6 +72,17 @@ def test_two_changes_where_one_is_not_enough(tmp_path: pathlib.Path) -> None:
 def test_a_world_without_the_flow_has_nothing_to_cut() -> None:
     status, out, _ = labask("cuts", EXAMPLE, "--flow", PAIR[0], "1@internal:eng", "--depth", "1")
     assert status == 4 and "No calls were found" in out
+
+
+def test_a_script_that_one_search_found_spares_others(player: Player, monkeypatch: pytest.MonkeyPatch) -> None:
+    cutter = FlowCutter(read_world(TWO_WAYS.encode("ascii")), player, b"/d/a", "1@low", b"", Limits(), Effort())
+    looked, search, look_in = [], cutter.search, cutter.look_in
+    spared = []
+    monkeypatch.setattr(cutter, "look_in", lambda world: looked.append(world) or look_in(world))
+    monkeypatch.setattr(cutter, "search", lambda changes: spared.append((len(looked), search(changes), len(looked))) or spared[-1][1])
+    assert cutter.cuts() and cutter.learned
+    by_others = [tried for before, tried, after in spared if before == after]
+    assert all(tried.ending is Ending.FOUND and not tried.script for tried in by_others)
 
 
 @pytest.mark.parametrize("words", [(), ("--flow", "/pay/**", "label:public"), ("--flow", PAIR[0], PAIR[0])])

@@ -214,7 +214,7 @@ class Closure:
                     self.inside_at_start[cast.item_of[directory]].add(item)
                     yield (ENTRY, cast.item_of[directory], item)
         for source in (self.problem.source, *self.problem.others):
-            if source is not None:
+            if source in cast.item_of:
                 yield (TAINT, cast.item_of[source])
         if self.problem.knows is not None:
             family = cast.family_of[self.problem.knows]
