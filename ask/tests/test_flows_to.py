@@ -18,12 +18,12 @@ def case_of(seed: int, player: Player) -> Case:
     return Case("rules", group.rules[0], Subject("random", read_world(random_world(seed).head.encode("ascii")), player))
 
 
-@pytest.mark.parametrize("seed", [1, 4, 9])
+@pytest.mark.parametrize("seed", [1, 4, 9, 15])
 def test_a_search_of_all_files_finds_what_those_of_the_pairs_do(seed: int, player: Player) -> None:
     case = case_of(seed, player)
     world = case.subject.world
     files = [each.path for each in world.objects if each.kind is Kind.FILE]
-    goals: "list[Goal]" = [each.tag for each in world.processes] + files[:1]
+    goals: "list[Goal]" = [*(each.tag for each in world.processes), *(files[:1] if len(files) > 1 else [])]
     for goal in goals:
         sources = [each for each in files if each != goal]
         pairs = [Flow(world, player, each, goal, (), Effort()).find(MOST) for each in sources]
