@@ -199,9 +199,10 @@ class FlowsTo:
 
 
 class FlowDecider:
-    """Decides a rule on flows in rounds: each TO is asked for bytes of any FROM up to a few calls, and then up to all.
+    """Decides a rule on flows in rounds: each TO is asked for bytes of any FROM up to a few calls, and then one by one up to all.
 
-    Where a TO gets bytes, the others are asked for shorter scripts alone: the shortest is shown, and of the first TO that has one.
+    Processes are asked first, and objects only where no process gets bytes. Where a TO gets some, those that are asked with it are
+    asked for shorter scripts alone: the shortest is shown, and of the first TO that has one.
     """
 
     def __init__(self, case: Case, rule: NeverFlow, limits: Limits, effort: Effort):
@@ -214,16 +215,24 @@ class FlowDecider:
         left = [pair for pair in pairs if not is_kept_apart(case.subject, *pair)]
         self.proved, self.sources = len(pairs) - len(left), by_goal(unlike_pairs(world, left))
         self.tried = dict.fromkeys(self.sources, 0)  # of each TO that is asked, up to how many calls no script does it
-        self.depths = sorted({min(FEW_CALLS, limits.depth), limits.depth})
+        self.places = {goal: place for place, goal in enumerate(self.sources)}
+        self.few, self.asked, self.depth = min(FEW_CALLS, limits.depth), self.open_goals(), 0
         self.shortest = Shortest(limits.depth + 1, len(left))
+        self.broken: List[Verdict] = []
         self.undecided: List[Verdict] = []
         if not self.sources:
             case.verdict = Verdict(Holding.HOLDS, Basis.PROOF, f"no script crosses the labels of TO; {counted(self.count, 'pair')}")
 
+    def open_goals(self) -> List[Goal]:
+        """Each TO that is asked by now: the processes, and where none is left the objects."""
+        return [goal for goal in self.tried if isinstance(goal, str)] or list(self.tried)
+
     def tasks(self) -> List[Task]:
         """What is to be done in the next round."""
-        depth = self.depths[0] if self.depths else 0
-        return [functools.partial(self.decide_goal, place, goal, depth) for place, goal in enumerate(self.tried if self.depths else ())]
+        goals = self.open_goals()
+        near = [goal for goal in goals if self.tried[goal] < self.few]
+        self.asked, self.depth = (near, self.few) if near else (goals[:1], self.limits.depth)
+        return [functools.partial(self.decide_goal, self.places[goal], goal, self.depth) for goal in self.asked]
 
     def decide_goal(self, place: int, goal: Goal, depth: int) -> Verdict:
         """The verdict about a TO by scripts of so many calls, or fewer where a script is known."""
@@ -244,23 +253,38 @@ class FlowDecider:
 
     def take(self, found: Sequence[Verdict]) -> None:
         """Takes the verdicts of a round, in the order of its tasks; fewer where it was stopped."""
-        depth, asked = self.depths.pop(0), list(self.tried)
-        broken = min((each for each in found if each.holding is Holding.BROKEN), key=lambda each: len(each.calls), default=None)
-        if broken is not None:
-            self.case.verdict, self.tried = broken, {}
+        stage = self.open_goals()
+        for goal, verdict in zip(self.asked, found):
+            self.take_one(goal, verdict)
+        if self.broken:
+            left = {goal: self.tried[goal] for goal in stage if goal in self.tried}
+            self.tried = {goal: tried for goal, tried in left.items()
+                          if self.shortest.most_calls(self.places[goal], self.limits.depth) > tried}
+        if len(found) < len(self.asked) or not self.tried:
+            self.conclude(len(found) < len(self.asked))
+
+    def take_one(self, goal: Goal, verdict: Verdict) -> None:
+        """Takes the verdict about a TO, which is asked again where all scripts of a few calls were tried."""
+        if verdict.holding is Holding.UNDECIDED and verdict.tried == self.depth < self.limits.depth:
+            self.tried[goal] = verdict.tried
             return
-        undecided = [(goal, verdict) for goal, verdict in zip(asked, found) if verdict.holding is Holding.UNDECIDED]
-        self.undecided += [verdict for _, verdict in undecided if verdict.tried < depth or not self.depths]
-        self.tried = {goal: verdict.tried for goal, verdict in undecided if verdict.tried == depth}
-        self.conclude(len(found) < len(asked))
+        del self.tried[goal]
+        if verdict.holding is Holding.BROKEN:
+            self.shortest.found(len(verdict.calls), self.places[goal])
+            self.broken.append(verdict)
+        elif verdict.holding is Holding.UNDECIDED:
+            self.undecided.append(verdict)
 
     def conclude(self, stopped: bool) -> None:
-        """Gives the case its verdict by what is known so far."""
-        if stopped or self.tried or self.undecided:
+        """Gives the case its verdict by what is known."""
+        self.tried = {}
+        if self.broken:
+            self.case.verdict = min(self.broken, key=lambda each: len(each.calls))
+        elif stopped or self.undecided:
             self.case.verdict = self.undecided[0] if self.undecided else STOPPED
-            return
-        why = f"no script of any length does it; {counted(self.count, 'pair')}" + (f", {self.proved} by a proof" if self.proved else "")
-        self.case.verdict = Verdict(Holding.HOLDS, Basis.MODEL, why)
+        else:
+            proved = f", {self.proved} by a proof" if self.proved else ""
+            self.case.verdict = Verdict(Holding.HOLDS, Basis.MODEL, f"no script of any length does it; {counted(self.count, 'pair')}{proved}")
 
 
 def by_goal(pairs: Sequence[Tuple[bytes, Goal]]) -> Dict[Goal, List[bytes]]:
