@@ -8,7 +8,7 @@ import pytest
 from support import TOP, labask
 
 from labask.effort import Effort
-from labask.flow_cuts import FlowCutter
+from labask.flow_cuts import FlowCutter, Tried
 from labask.playing import Player
 from labask.search.finding import Ending
 from labask.search.limits import Limits
@@ -76,13 +76,17 @@ def test_a_world_without_the_flow_has_nothing_to_cut() -> None:
 
 def test_a_script_that_one_search_found_spares_others(player: Player, monkeypatch: pytest.MonkeyPatch) -> None:
     cutter = FlowCutter(read_world(TWO_WAYS.encode("ascii")), player, b"/d/a", "1@low", b"", Limits(), Effort())
-    looked, search, look_in = [], cutter.search, cutter.look_in
-    spared = []
-    monkeypatch.setattr(cutter, "look_in", lambda world: looked.append(world) or look_in(world))
-    monkeypatch.setattr(cutter, "search", lambda changes: spared.append((len(looked), search(changes), len(looked))) or spared[-1][1])
-    assert cutter.cuts() and cutter.learned
-    by_others = [tried for before, tried, after in spared if before == after]
-    assert all(tried.ending is Ending.FOUND and not tried.script for tried in by_others)
+    searched, look = {}, cutter.search
+
+    def search(changes: Any) -> Any:
+        searched[changes] = look(changes)
+        return searched[changes]
+
+    monkeypatch.setattr(cutter, "search", search)
+    assert cutter.cuts()
+    changes = next(each for each, tried in searched.items() if tried.script in cutter.learned)
+    monkeypatch.setattr(cutter, "look_in", lambda world: pytest.fail("a script that is known was searched for"))
+    assert look(changes) == Tried(Ending.FOUND)
 
 
 @pytest.mark.parametrize("words", [(), ("--flow", "/pay/**", "label:public"), ("--flow", PAIR[0], PAIR[0])])

@@ -284,7 +284,8 @@ class FlowDecider:
             self.case.verdict = self.undecided[0] if self.undecided else STOPPED
         else:
             proved = f", {self.proved} by a proof" if self.proved else ""
-            self.case.verdict = Verdict(Holding.HOLDS, Basis.MODEL, f"no script of any length does it; {counted(self.count, 'pair')}{proved}")
+            why = f"no script of any length does it; {counted(self.count, 'pair')}{proved}"
+            self.case.verdict = Verdict(Holding.HOLDS, Basis.MODEL, why)
 
 
 def by_goal(pairs: Sequence[Tuple[bytes, Goal]]) -> Dict[Goal, List[bytes]]:
