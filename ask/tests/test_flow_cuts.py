@@ -7,6 +7,13 @@ import pytest
 
 from support import TOP, labask
 
+from labask.effort import Effort
+from labask.flow_cuts import FlowCutter, Tried
+from labask.playing import Player
+from labask.search.finding import Ending
+from labask.search.limits import Limits
+from labask.worlds import read_world
+
 pytestmark = pytest.mark.usefixtures("program")
 EXAMPLE = TOP / "examples" / "backup_for_all.txt"
 PAIR = ("/pay/list of may", "1@internal:eng")
@@ -65,6 +72,21 @@ def test_two_changes_where_one_is_not_enough(tmp_path: pathlib.Path) -> None:
 def test_a_world_without_the_flow_has_nothing_to_cut() -> None:
     status, out, _ = labask("cuts", EXAMPLE, "--flow", PAIR[0], "1@internal:eng", "--depth", "1")
     assert status == 4 and "No calls were found" in out
+
+
+def test_a_script_that_one_search_found_spares_others(player: Player, monkeypatch: pytest.MonkeyPatch) -> None:
+    cutter = FlowCutter(read_world(TWO_WAYS.encode("ascii")), player, b"/d/a", "1@low", b"", Limits(), Effort())
+    searched, look = {}, cutter.search
+
+    def search(changes: Any) -> Any:
+        searched[changes] = look(changes)
+        return searched[changes]
+
+    monkeypatch.setattr(cutter, "search", search)
+    assert cutter.cuts()
+    changes = next(each for each, tried in searched.items() if tried.script in cutter.learned)
+    monkeypatch.setattr(cutter, "look_in", lambda world: pytest.fail("a script that is known was searched for"))
+    assert look(changes) == Tried(Ending.FOUND)
 
 
 @pytest.mark.parametrize("words", [(), ("--flow", "/pay/**", "label:public"), ("--flow", PAIR[0], PAIR[0])])

@@ -1,4 +1,6 @@
 """Tests what `flow` says where its search was cut at a limit: no number of calls counts as tried then."""
+import gc
+
 import pytest
 from support import TOP
 
@@ -23,6 +25,12 @@ def test_a_whole_search_excludes_shorter_scripts(player: Player) -> None:
     assert answer.result.ending is Ending.DEPTH and answer.result.excluded == CALLS - 1
     answer = answer_of(player, CALLS)
     assert answer.found is not None and flow.shortest(answer).startswith("No script of fewer calls")
+
+
+def test_a_search_leaves_the_garbage_collector_as_it_was(player: Player) -> None:
+    before = gc.get_threshold()
+    answer_of(player, CALLS)
+    assert gc.get_threshold() == before
 
 
 def test_a_search_that_was_cut_does_not_exclude_what_it_left_out(player: Player, monkeypatch: pytest.MonkeyPatch) -> None:

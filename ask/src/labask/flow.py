@@ -5,6 +5,7 @@ The script is looked for in the model of the kernel, and what is found is played
 import argparse
 import dataclasses
 import gc
+from contextlib import contextmanager
 from dataclasses import dataclass
 from typing import Any, Callable, Dict, Iterator, List, Optional, Sequence, Tuple, Union
 
@@ -73,6 +74,17 @@ class Found:
     calls: Tuple[Call, ...]
 
 
+@contextmanager
+def collecting_seldom() -> Iterator[None]:
+    """Has Python look for cycles less often, for a search."""
+    before = gc.get_threshold()
+    gc.set_threshold(COLLECTED_AFTER)
+    try:
+        yield
+    finally:
+        gc.set_threshold(*before)
+
+
 class ModelFault(PlayingFault):
     """`labsys` answers a script otherwise than the model."""
 
@@ -105,12 +117,17 @@ class Flow:
 
     def find(self, depth: int = DEPTH, states: int = STATES) -> Optional[Found]:
         """A shortest script, with at most so many calls."""
-        gc.set_threshold(COLLECTED_AFTER)
-        self.search = Search(self.problem(), self.accepts, self.effort.over, states)
-        self.result = self.search.find(depth)
+        with collecting_seldom():
+            self.search = Search(self.problem(), self.accepts, self.effort.over, states)
+            self.result = self.search.find(depth)
         return self.found
 
     # ---- what is found
+
+    def shows(self, script: Tuple[Line, ...]) -> bool:
+        """Whether a script of another search gives the bytes."""
+        self.search = Search(self.problem(), self.accepts, self.effort.over, 1)
+        return self.search.replay(script) is not None and self.accepts(script)
 
     def accepts(self, script: Tuple[Line, ...]) -> bool:
         """Whether a script of the model gives the bytes in the world, and uses no capability that it may not."""

@@ -104,13 +104,15 @@ class FlowCutter:
     def search(self, changes: Changes) -> Tried:
         """What a search finds after changes, or a script that was learned."""
         world = self.changed(changes)
-        if self.learned and self.is_left(world, self.learned):
-            return Tried(Ending.FOUND)
-        return self.look(changes)
+        return Tried(Ending.FOUND) if self.learned and self.is_left(world, self.learned) else self.look_in(world)
 
     def look(self, changes: Changes) -> Tried:
         """What a search finds after changes."""
-        flow = self.flow(self.changed(changes))
+        return self.look_in(self.changed(changes))
+
+    def look_in(self, world: World) -> Tried:
+        """What a search finds in a changed world."""
+        flow = self.flow(world)
         found = flow.find(self.limits.depth, self.limits.states)
         return Tried(flow.result.ending, flow.result.script, found)
 

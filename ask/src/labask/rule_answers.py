@@ -10,13 +10,14 @@ from labask.answers import WrongWords
 from labask.capability_texts import read_sets
 from labask.effort import Effort
 from labask.exercising import Exercised, Exercising, Record, calls_of, is_asked_for
-from labask.flow import Call, Flow, Goal, goal_text, goals_of, sources_of
+from labask.flow import Call, Flow, Found, Goal, collecting_seldom, goal_text, goals_of, sources_of
 from labask.kernel.state import Labels
 from labask.playing import Played, Player
 from labask.proved import LABEL_CAPABILITIES, Proved, proved
 from labask.rule_texts import Access, Answered, Confined, NeverExercise, NeverFlow, Rule, RuleFault, Uncrossed
-from labask.search.finding import PROVED_FROM, Ending, Search
+from labask.search.finding import Ending, Line, Result, Search
 from labask.search.limits import Limits
+from labask.search.problem import MARK, Problem
 from labask.search.side_by_side import results
 from labask.sets import objects_named, processes_named
 from labask.who import CHILD, PROCESS, Answer as Cell
@@ -48,12 +49,14 @@ class Basis(enum.Enum):
 
 @dataclass(frozen=True)
 class Verdict:
-    """Whether a rule holds, what says so, and why; of a broken one a script that was played, and the world to play it in."""
+    """Whether a rule holds, what says so, and why; of a broken one a script that was played, and the world to play it in;
+    of one that a search left undecided, up to how many calls all scripts were tried."""
     holding: Holding
     basis: Basis
     why: str
     calls: Tuple[Call, ...] = ()
     world: bytes = b""
+    tried: int = 0
 
 
 STOPPED = Verdict(Holding.UNDECIDED, Basis.NONE, "it was stopped before this was answered")
@@ -162,10 +165,44 @@ class Shortest:
         return min(depth, calls if place < best_place else calls - 1)
 
 
-class FlowDecider:
-    """Decides a rule on flows in rounds: whether TO gets bytes of any FROM; then pair by pair up to a few calls, and up to all.
+class FlowsTo:
+    """The search for a flow from any of several files to one TO; `found` is the script with the file whose bytes it brings there."""
 
-    Where a pair has a flow, the others are asked for shorter scripts alone: the shortest is shown, and of the first pair that has one.
+    def __init__(self, case: Case, sources: Sequence[bytes], goal: Goal, without: Sequence[str], effort: Effort):
+        self.case, self.sources, self.goal, self.without, self.effort = case, sources, goal, without, effort
+        self.found: Optional[Tuple[bytes, Found]] = None
+
+    def flow(self, source: bytes) -> Flow:
+        """The search from one of the files alone."""
+        return Flow(self.case.subject.world, self.case.subject.player, source, self.goal, self.without, self.effort)
+
+    def problem(self) -> Problem:
+        """What the search is asked: the mark is in each of the files."""
+        flow = self.flow(self.sources[0])
+        problem, world = flow.problem(), flow.world
+        others = tuple(flow.labels.number(world.objects_by_path[each].number) for each in self.sources[1:])
+        for number in others:
+            problem.state.put(number, problem.state.things[number]._replace(content=MARK))
+        return dataclasses.replace(problem, others=others)
+
+    def accepts(self, script: Tuple[Line, ...]) -> bool:
+        """Whether a script brings the bytes of one of the files there when it is played; the first one is kept."""
+        flows = ((source, self.flow(source)) for source in self.sources)
+        self.found = next(((source, flow.found) for source, flow in flows if flow.shows(script) and flow.found is not None), None)
+        return self.found is not None
+
+    def find(self, most_calls: Callable[[], int], excluded: int, states: int) -> Result:
+        """Looks for a shortest script, of more calls than are excluded and of as many as are asked for, which may become fewer."""
+        search = Search(self.problem(), self.accepts, lambda: self.effort.over() or search.bound > most_calls(), states)
+        with collecting_seldom():
+            return search.find(most_calls(), excluded)
+
+
+class FlowDecider:
+    """Decides a rule on flows in rounds: each TO is asked for bytes of any FROM up to a few calls, and then one by one up to all.
+
+    Processes are asked first, and objects only where no process gets bytes. Where a TO gets some, those that are asked with it are
+    asked for shorter scripts alone: the shortest is shown, and of the first TO that has one.
     """
 
     def __init__(self, case: Case, rule: NeverFlow, limits: Limits, effort: Effort):
@@ -176,72 +213,92 @@ class FlowDecider:
             raise WrongWords("FROM and TO are the same object")
         self.count = len(pairs)
         left = [pair for pair in pairs if not is_kept_apart(case.subject, *pair)]
-        self.proved, self.pairs = len(pairs) - len(left), unlike_pairs(world, left)
-        self.depths = sorted({min(FEW_CALLS, limits.depth), limits.depth})
-        self.merged = len(self.pairs) > 1
+        self.proved, self.sources = len(pairs) - len(left), by_goal(unlike_pairs(world, left))
+        self.tried = dict.fromkeys(self.sources, 0)  # of each TO that is asked, up to how many calls no script does it
+        self.places = {goal: place for place, goal in enumerate(self.sources)}
+        self.few, self.asked, self.depth = min(FEW_CALLS, limits.depth), self.open_goals(), 0
         self.shortest = Shortest(limits.depth + 1, len(left))
+        self.broken: List[Verdict] = []
         self.undecided: List[Verdict] = []
-        if not self.pairs:
+        if not self.sources:
             case.verdict = Verdict(Holding.HOLDS, Basis.PROOF, f"no script crosses the labels of TO; {counted(self.count, 'pair')}")
+
+    def open_goals(self) -> List[Goal]:
+        """Each TO that is asked by now: the processes, and where none is left the objects."""
+        return [goal for goal in self.tried if isinstance(goal, str)] or list(self.tried)
 
     def tasks(self) -> List[Task]:
         """What is to be done in the next round."""
-        if self.merged:
-            return [functools.partial(self.decide_goal, goal) for goal in self.goals()]
-        depth = self.depths[0] if self.depths else 0
-        return [functools.partial(self.decide_pair, place, pair, depth) for place, pair in enumerate(self.pairs if self.depths else ())]
+        goals = self.open_goals()
+        near = [goal for goal in goals if self.tried[goal] < self.few]
+        self.asked, self.depth = (near, self.few) if near else (goals[:1], self.limits.depth)
+        return [functools.partial(self.decide_goal, self.places[goal], goal, self.depth) for goal in self.asked]
 
-    def goals(self) -> List[Goal]:
-        """Each TO of the pairs."""
-        return list(dict.fromkeys(goal for _, goal in self.pairs))
-
-    def decide_goal(self, goal: Goal) -> Verdict:
-        """Whether no bytes of any FROM get to a TO, which the pairs say where they are asked one by one."""
-        sources = [source for source, other in self.pairs if other == goal]
-        flow = Flow(self.case.subject.world, self.case.subject.player, sources[0], goal, self.rule.exceptions, self.effort)
-        others = tuple(flow.labels.number(flow.world.objects_by_path[each].number) for each in sources[1:])
-        search = Search(dataclasses.replace(flow.problem(), others=others), lambda _: False, self.effort.over, 1)
-        never = any(search.is_never(grain) for grain in PROVED_FROM.values())
-        return Verdict(Holding.HOLDS, Basis.MODEL, "") if never else STOPPED
-
-    def decide_pair(self, place: int, pair: Tuple[bytes, Goal], depth: int) -> Verdict:
-        """The verdict about a pair by scripts of so many calls, or fewer where a script is known."""
-        depth = self.shortest.most_calls(place, depth)
-        if depth < 1:
+    def decide_goal(self, place: int, goal: Goal, depth: int) -> Verdict:
+        """The verdict about a TO by scripts of so many calls, or fewer where a script is known."""
+        most_calls, tried = functools.partial(self.shortest.most_calls, place, depth), self.tried[goal]
+        if most_calls() <= tried:
             return STOPPED
-        flow = Flow(self.case.subject.world, self.case.subject.player, *pair, self.rule.exceptions, self.effort)
-        found, words = flow.find(depth, self.limits.states), f"{path_word(pair[0])} to {goal_text(pair[1])}"
-        if found is not None:
+        flows = FlowsTo(self.case, self.sources[goal], goal, self.rule.exceptions, self.effort)
+        result = flows.find(most_calls, tried, self.limits.states)
+        if flows.found is not None:
+            source, found = flows.found
             self.shortest.found(len(found.calls), place)
-            why = f"bytes get from {words} by {counted(len(found.calls), 'call')}"
+            why = f"bytes get from {path_word(source)} to {goal_text(goal)} by {counted(len(found.calls), 'call')}"
             return Verdict(Holding.BROKEN, Basis.PLAY, why, found.calls, found.world)
-        if flow.result.ending is Ending.NEVER:
+        if result.ending is Ending.NEVER:
             return Verdict(Holding.HOLDS, Basis.MODEL, "")
-        return Verdict(Holding.UNDECIDED, Basis.NONE, f"the search from {words} stopped at the {flow.result.ending.value}")
+        why = f"the search from {files_text(self.sources[goal])} to {goal_text(goal)} stopped at the {result.ending.value}"
+        return Verdict(Holding.UNDECIDED, Basis.NONE, why, tried=result.excluded)
 
     def take(self, found: Sequence[Verdict]) -> None:
         """Takes the verdicts of a round, in the order of its tasks; fewer where it was stopped."""
-        if self.merged:
-            held = {goal for goal, verdict in zip(self.goals(), found) if verdict.holding is Holding.HOLDS}
-            self.pairs, self.merged = [pair for pair in self.pairs if pair[1] not in held], False
-        else:
-            self.depths.pop(0)
-            broken = min((each for each in found if each.holding is Holding.BROKEN), key=lambda each: len(each.calls), default=None)
-            left = [place for place in range(len(self.pairs)) if place >= len(found) or found[place].holding is not Holding.HOLDS]
-            self.undecided = [found[place] for place in left if place < len(found)]
-            self.pairs = [self.pairs[place] for place in left]
-            if broken is not None:
-                self.case.verdict, self.pairs = broken, []
-                return
-        self.conclude()
+        stage = self.open_goals()
+        for goal, verdict in zip(self.asked, found):
+            self.take_one(goal, verdict)
+        if self.broken:
+            left = {goal: self.tried[goal] for goal in stage if goal in self.tried}
+            self.tried = {goal: tried for goal, tried in left.items()
+                          if self.shortest.most_calls(self.places[goal], self.limits.depth) > tried}
+        if len(found) < len(self.asked) or not self.tried:
+            self.conclude(len(found) < len(self.asked))
 
-    def conclude(self) -> None:
-        """Gives the case its verdict by what is known so far."""
-        if self.pairs:
-            self.case.verdict = self.undecided[0] if self.undecided else STOPPED
+    def take_one(self, goal: Goal, verdict: Verdict) -> None:
+        """Takes the verdict about a TO, which is asked again where all scripts of a few calls were tried."""
+        if verdict.holding is Holding.UNDECIDED and verdict.tried == self.depth < self.limits.depth:
+            self.tried[goal] = verdict.tried
             return
-        why = f"no script of any length does it; {counted(self.count, 'pair')}" + (f", {self.proved} by a proof" if self.proved else "")
-        self.case.verdict = Verdict(Holding.HOLDS, Basis.MODEL, why)
+        del self.tried[goal]
+        if verdict.holding is Holding.BROKEN:
+            self.shortest.found(len(verdict.calls), self.places[goal])
+            self.broken.append(verdict)
+        elif verdict.holding is Holding.UNDECIDED:
+            self.undecided.append(verdict)
+
+    def conclude(self, stopped: bool) -> None:
+        """Gives the case its verdict by what is known."""
+        self.tried = {}
+        if self.broken:
+            self.case.verdict = min(self.broken, key=lambda each: len(each.calls))
+        elif stopped or self.undecided:
+            self.case.verdict = self.undecided[0] if self.undecided else STOPPED
+        else:
+            proved = f", {self.proved} by a proof" if self.proved else ""
+            why = f"no script of any length does it; {counted(self.count, 'pair')}{proved}"
+            self.case.verdict = Verdict(Holding.HOLDS, Basis.MODEL, why)
+
+
+def by_goal(pairs: Sequence[Tuple[bytes, Goal]]) -> Dict[Goal, List[bytes]]:
+    """For each TO of pairs the files FROM."""
+    found: Dict[Goal, List[bytes]] = {}
+    for source, goal in pairs:
+        found.setdefault(goal, []).append(source)
+    return found
+
+
+def files_text(sources: Sequence[bytes]) -> str:
+    """The files FROM in words."""
+    return path_word(sources[0]) + (f" and {len(sources) - 1} more" if len(sources) > 1 else "")
 
 
 # ---- never exercise, uncrossed and confined
@@ -419,7 +476,7 @@ def decide_all(cases: Sequence[Case], limits: Limits, effort: Effort) -> None:
     """Gives each case its verdict, as far as there is time."""
     for case in cases:
         require_names(case)
-    deciders = [decider_of(case, limits, effort) for case in cases]
+    deciders = sorted((decider_of(case, limits, effort) for case in cases), key=lambda each: isinstance(each, FlowDecider))  # plays first
     while not effort.stopped:
         todo = [(decider, decider.tasks()) for decider in deciders]
         tasks = [task for _, tasks in todo for task in tasks]

@@ -1,6 +1,6 @@
 """Classes of processes and of objects that differ in names alone: of users, groups, categories, files and directories."""
 from collections import defaultdict
-from typing import DefaultDict, Dict, Hashable, List, Mapping, Set, Tuple, TypeVar
+from typing import Collection, DefaultDict, Dict, Hashable, List, Mapping, Set, Tuple, TypeVar
 
 from labask.kernel.state import Label, Number, Process, State, Thing
 
@@ -15,11 +15,12 @@ class Classes:
     What is asked for keeps a color of its own. Any classes are sound: one who acts for a class has all that any of it has.
     """
 
-    def __init__(self, state: State, things: Set[Number], processes: Set[Number]):
+    def __init__(self, state: State, things: Set[Number], processes: Set[Number], sources: Collection[Number] = ()):
         self.state = state
         self.names: Dict[Name, Color] = defaultdict(int)
-        self.things: Dict[Number, Color] = colored({number: (thing.kind, number if number in things else None, thing.mode, thing.caps)
-                                                    for number, thing in state.things.items()})
+        self.things: Dict[Number, Color] = colored({
+            number: (thing.kind, number if number in things else None, thing.mode, thing.caps, number in sources)
+            for number, thing in state.things.items()})
         self.processes: Dict[Number, Color] = colored({number: (process.caps, process.ids.groups, number if number in processes else None)
                                                        for number, process in state.processes.items()})
         count = 0

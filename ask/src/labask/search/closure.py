@@ -53,11 +53,11 @@ class Closure:
         self.merged, self.bound, self.rounds = bound is None, bound, 0
         self.rough = self.merged or grain is not Grain.FINE
         self.wanted = wanted
-        self.first: Set[Fact] = set()
+        self.first: Dict[Fact, None] = {}  # without values, as the facts: in the order in which they come to be
         self.reserved: Dict[int, int] = {}
         self.exact_views: Set[int] = set()
         self.cast = Cast(problem, grain)
-        self.facts: Set[Fact] = set()
+        self.facts: Dict[Fact, None] = {}
         self.steps: Dict[Any, Step] = {}
         self.values: DefaultDict[Tuple[str, int], List[Any]] = defaultdict(list)
         self.children: DefaultDict[int, List[int]] = defaultdict(list)
@@ -105,7 +105,7 @@ class Closure:
         """Adds the facts of the first state."""
         for fact in self.first_facts(self.state):
             self.add(fact)
-        self.first |= self.facts
+        self.first.update(self.facts)
         return self
 
     @property
@@ -214,7 +214,7 @@ class Closure:
                     self.inside_at_start[cast.item_of[directory]].add(item)
                     yield (ENTRY, cast.item_of[directory], item)
         for source in (self.problem.source, *self.problem.others):
-            if source is not None:
+            if source in cast.item_of:
                 yield (TAINT, cast.item_of[source])
         if self.problem.knows is not None:
             family = cast.family_of[self.problem.knows]
@@ -244,7 +244,7 @@ class Closure:
         """Adds a fact, and notes what has to be looked at again."""
         if fact in self.facts:
             return
-        self.facts.add(fact)
+        self.facts[fact] = None
         kind = fact[0]
         if kind in ATTRIBUTES:
             self.values[kind, fact[1]].append(fact[2])
@@ -305,7 +305,7 @@ class Closure:
         if name not in self.names[directory]:
             self.names[directory].append(name)
             for fact in self.entry_facts(directory, name):
-                self.first.add(fact)
+                self.first[fact] = None
                 self.add(fact)
             self.renew |= set(range(len(self.cast.families)))
         for item in list(self.at[directory, name]):
@@ -323,10 +323,10 @@ class Closure:
         numbers = self.cast.items[target]
         return not numbers or any(not self.state.names.get(number) for number in numbers)
 
-    def entry_facts(self, directory: int, name: bytes) -> Set[Fact]:
+    def entry_facts(self, directory: int, name: bytes) -> List[Fact]:
         """What a name of the path TO leads to in directories of the first state."""
         found = [self.state.names.get(number, {}).get(name) for number in self.cast.items[directory]] or [None]
-        return {(FREE, directory, name) if each is None else (AT, directory, name, self.cast.item_of[each]) for each in found}
+        return [(FREE, directory, name) if each is None else (AT, directory, name, self.cast.item_of[each]) for each in found]
 
     def reach_on_path(self, fact: Fact) -> None:
         """Goes on along the path TO from a new entry."""
@@ -483,7 +483,7 @@ class Closure:
     def some_steps(self, fact: Fact) -> List[Tuple[Fact, ...]]:
         """How an object has one of some values."""
         _, kind, item, values = fact
-        return [((kind, item, value),) for value in values]
+        return [((kind, item, value),) for value in self.values[kind, item] if value in values]
 
     def fits_steps(self, fact: Fact) -> List[Tuple[Fact, ...]]:
         """How the label of an object dominates that of a directory."""
@@ -534,7 +534,7 @@ class Closure:
         for count, needs in enumerate(goals):
             if all(fact in self.facts for fact in needs):
                 self.steps[GOAL, count] = Step(0, needs, (GOAL,))
-                self.facts.add(GOAL)
+                self.facts[GOAL] = None
 
     def derive_path(self) -> None:
         """Adds the steps along the path TO."""

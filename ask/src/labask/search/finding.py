@@ -86,9 +86,10 @@ class Search:
         """The grains in which steps are looked for."""
         return grains_of(self.whole)
 
-    def find(self, depth: int) -> Result:
-        """Looks for a script of at most so many calls."""
-        for bound in range(1, depth + 1):
+    def find(self, depth: int, excluded: int = 0) -> Result:
+        """Looks for a script of at most so many calls, where none of so many as are excluded is known to do it."""
+        self.excluded = excluded
+        for bound in range(excluded + 1, depth + 1):
             if bound in PROVED_FROM and self.is_never(PROVED_FROM[bound]):
                 return Result(Ending.NEVER)
             if self.over():

@@ -31,7 +31,7 @@ class Problem:
     """A search: the first state, with the mark in the object FROM or with a process that knows it, and TO.
 
     TO is a process, or an object with the names of its path. Where `program` is given, the process is to execute it. The bytes of
-    `others` count as those of FROM in a closure.
+    `others` count as those of FROM.
     """
     state: State
     source: Optional[Number] = None
@@ -46,7 +46,7 @@ class Problem:
     @functools.cached_property
     def classes(self) -> Classes:
         """The classes of the first state."""
-        return Classes(self.state, self.kept, self.asked)
+        return Classes(self.state, self.kept, self.asked, self.others)
 
     @property
     def asked(self) -> Set[Number]:
@@ -56,7 +56,7 @@ class Problem:
     @functools.cached_property
     def kept(self) -> Set[Number]:
         """The objects that are like no other one: those that are asked for, and the directories above them and on the path TO."""
-        named = (self.source, self.thing, self.program, *self.others)
+        named = (self.source, self.thing, self.program)
         waiting = [self.state.root, *(each for each in named if each is not None)]
         here: Optional[Number] = self.state.root
         for name in self.names:
@@ -127,7 +127,7 @@ class Cast:
             return self.problem.classes.things[number]
         if thing.kind is Kind.DIRECTORY and self.grain is Grain.FINE:
             return number
-        return (self.item_of[self.problem.state.spots[number][0][0]], thing._replace(content=b""))
+        return (self.item_of[self.problem.state.spots[number][0][0]], thing._replace(content=b""), number in self.problem.others)
 
     def new_item(self, kind: Kind) -> int:
         """One more item."""
