@@ -201,8 +201,8 @@ class FlowsTo:
 class FlowDecider:
     """Decides a rule on flows in rounds: each TO is asked for bytes of any FROM up to a few calls, and then one by one up to all.
 
-    Processes are asked first, and objects only where no process gets bytes. Where a TO gets some, those that are asked with it are
-    asked for shorter scripts alone: the shortest is shown, and of the first TO that has one.
+    Processes are asked before objects. Where a TO gets some, the others are asked for shorter scripts alone: the shortest is shown, and
+    of the first TO that has one.
     """
 
     def __init__(self, case: Case, rule: NeverFlow, limits: Limits, effort: Effort):
@@ -218,7 +218,7 @@ class FlowDecider:
         self.places = {goal: place for place, goal in enumerate(self.sources)}
         self.few, self.asked, self.depth = min(FEW_CALLS, limits.depth), self.open_goals(), 0
         self.shortest = Shortest(limits.depth + 1, len(left))
-        self.broken: List[Verdict] = []
+        self.broken: Dict[int, Verdict] = {}  # by the place of TO
         self.undecided: List[Verdict] = []
         if not self.sources:
             case.verdict = Verdict(Holding.HOLDS, Basis.PROOF, f"no script crosses the labels of TO; {counted(self.count, 'pair')}")
@@ -253,12 +253,10 @@ class FlowDecider:
 
     def take(self, found: Sequence[Verdict]) -> None:
         """Takes the verdicts of a round, in the order of its tasks; fewer where it was stopped."""
-        stage = self.open_goals()
         for goal, verdict in zip(self.asked, found):
             self.take_one(goal, verdict)
         if self.broken:
-            left = {goal: self.tried[goal] for goal in stage if goal in self.tried}
-            self.tried = {goal: tried for goal, tried in left.items()
+            self.tried = {goal: tried for goal, tried in self.tried.items()
                           if self.shortest.most_calls(self.places[goal], self.limits.depth) > tried}
         if len(found) < len(self.asked) or not self.tried:
             self.conclude(len(found) < len(self.asked))
@@ -271,7 +269,7 @@ class FlowDecider:
         del self.tried[goal]
         if verdict.holding is Holding.BROKEN:
             self.shortest.found(len(verdict.calls), self.places[goal])
-            self.broken.append(verdict)
+            self.broken[self.places[goal]] = verdict
         elif verdict.holding is Holding.UNDECIDED:
             self.undecided.append(verdict)
 
@@ -279,7 +277,7 @@ class FlowDecider:
         """Gives the case its verdict by what is known."""
         self.tried = {}
         if self.broken:
-            self.case.verdict = min(self.broken, key=lambda each: len(each.calls))
+            self.case.verdict = self.broken[min(self.broken, key=lambda place: (len(self.broken[place].calls), place))]
         elif stopped or self.undecided:
             self.case.verdict = self.undecided[0] if self.undecided else STOPPED
         else:
